@@ -1,0 +1,4 @@
+pub mod CellFacts
+pub mod Tested
+pub mod Verdicts
+pub mod Weighing

@@ -1,0 +1,5 @@
+pub mod Refusals
+pub mod Cells
+pub mod Weights
+pub mod Edits
+pub mod Laws

@@ -1,0 +1,68 @@
+ghost use mathlib.Core.Path.{_≡_};
+ghost use mathlib.Core.Bool.{Bool, true, false};
+ghost use Prim.Native.Nat.{ℕ, _<_, _≤_};
+ghost use lib.ListN.{length};
+ghost use Rattle.entry.specs.Cells.{Meaning, held, weigh, NoGap};
+ghost use Rattle.entry.specs.Weights.{lightest as lightestOf, heaviest as heaviestOf, Lightest, Heaviest};
+ghost use Rattle.entry.specs.Edits.{Strikes, Grants};
+use crate::refusal::Refusal;
+
+// A kind of entry. An entry is what one day of a plan may hold: a set of codes 0 to 63, each with a weight.
+// Everything above is written once for every kind, from the meaning and the laws below.
+pub trait Entry: Copy {
+    // The kind's top: no code of the kind weighs more.
+    const TOP: u32;
+
+    // The top as clauses see it, since none can name the constant.
+    ghost top: { ℕ };
+
+    // The codes that the kind has.
+    ghost known: { ℕ → Bool };
+
+    // For each code its weight and whether it is held.
+    ghost meaning: { Self → Meaning };
+
+    law range: { (1 ≤ top) × (top ≤ 63) };
+
+    law codes: { (c : ℕ) → known c ≡ true → c < 64 };
+
+    law cells: { (x : Self) → length (meaning x) ≡ 64 };
+
+    law holdings: { (x : Self) (c : ℕ) → held (meaning x) c ≡ true → known c ≡ true };
+
+    law unknowns: { (x : Self) (c : ℕ) → known c ≡ false → weigh (meaning x) c ≡ 0 };
+
+    law weights: { (x : Self) (c : ℕ) → weigh (meaning x) c ≤ top };
+
+    law gapless: { (x : Self) → NoGap (meaning x) };
+
+    fn top_weight() -> u32
+        ensures { λ r. ⌜ r ≡ top ⌝ };
+
+    fn known(code: u32) -> bool
+        ensures { λ r. ⌜ r ≡ known code ⌝ };
+
+    fn holds(&self, code: u32) -> bool
+        ensures { λ r. ⌜ r ≡ held (meaning (now (self .entry))) code ⌝ };
+
+    fn weight(&self, code: u32) -> u32
+        ensures { λ r. ⌜ r ≡ weigh (meaning (now (self .entry))) code ⌝ };
+
+    // The smallest weight of a held code, 0 where none is held.
+    fn lightest(&self) -> u32
+        ensures equals { λ r. ⌜ r ≡ lightestOf (meaning (now (self .entry))) ⌝ }
+        ensures means { λ r. ⌜ Lightest (meaning (now (self .entry))) r ⌝ };
+
+    // The largest weight of a held code, 0 where none is held.
+    fn heaviest(&self) -> u32
+        ensures equals { λ r. ⌜ r ≡ heaviestOf (meaning (now (self .entry))) ⌝ }
+        ensures means { λ r. ⌜ Heaviest (meaning (now (self .entry))) r ⌝ };
+
+    // Takes one code out, and changes nothing else. A refusal leaves the very same entry.
+    fn strike(&mut self, code: u32) -> Result<(), Refusal>
+        ensures { λ r. ⌜ Strikes meaning known code (now (self .entry)) r (now (self .exit)) ⌝ };
+
+    // Puts one code in, and changes nothing else. A refusal leaves the very same entry.
+    fn grant(&mut self, code: u32) -> Result<(), Refusal>
+        ensures { λ r. ⌜ Grants meaning known code (now (self .entry)) r (now (self .exit)) ⌝ };
+}

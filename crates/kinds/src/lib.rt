@@ -1,0 +1,3 @@
+// The kinds of entry: duty, collection and boxes.
+pub mod boxes;
+pub mod boxes_entry;
