@@ -11,7 +11,7 @@ use Rattle.std.specs.Iters.{counting}
 use Rattle.std.proofs.shelf.Counted.{length-map-counting, getD-map-counting}
 use Rattle.std.proofs.shelf.Lists.{ext-getD, getD-past, set-past, getD-set-same, getD-set-other}
 use Rattle.std.proofs.shelf.Tests.{cases-lt, cases-eq, lt-ltb, le-ltb, eq-eqb, ne-eqb, ltb-true, eqb-true, and-parts, and-from, and-right, or-left, or-right, or-cases, both-ways, not-true}
-use Rattle.entry.specs.Cells.{Cell, Meaning, vacant, weigh, held, cells}
+use Rattle.entry.specs.Cells.{Cell, Meaning, vacant, weigh, held, cells, NoGap}
 use Rattle.entry.specs.Edits.{marked, struck, granted}
 use Rattle.entry.specs.Laws.{Strikes-one, Grants-one}
 
@@ -150,3 +150,7 @@ module _ (weighs : ℕ → ℕ) (holds : ℕ → Bool) where
 
   pub weigh-unknown : (c : ℕ) → ltb c 64 ≡ false → weigh (cells weighs holds) c ≡ 0
   weigh-unknown c u = weigh-cells weighs holds c ∙ ap (λ b. cond b (weighs c) 0) u
+
+-- between weights of 0 and 1 there is none
+pub light-gapless : (m : Meaning) → ((c : ℕ) → weigh m c ≤ 1) → NoGap m
+light-gapless m light a b w ha hb la lb = absurd (omega (arith, light b))

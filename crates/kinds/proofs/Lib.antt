@@ -1,1 +1,2 @@
+pub mod DutyFacts
 pub mod SpanFacts

@@ -1,3 +1,5 @@
 // The kinds of entry: duty, collection and boxes.
 pub mod boxes;
 pub mod boxes_entry;
+pub mod duty;
+pub mod duty_entry;
