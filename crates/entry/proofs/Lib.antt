@@ -1,4 +1,5 @@
 pub mod CellFacts
+pub mod ListingFacts
 pub mod Tested
 pub mod Verdicts
 pub mod Weighing

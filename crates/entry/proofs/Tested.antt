@@ -14,7 +14,7 @@ use Rattle.entry.specs.Cells.{Meaning, vacant, weigh, held, NoGap}
 use Rattle.entry.specs.Edits.{some, only, missing, gapless}
 use Rattle.entry.specs.Laws.{Sized}
 
-decides-some : (p : ℕ → Bool) (P : ℕ → Type 0) → ((k : ℕ) → Decides (p k) (P k)) → (n : ℕ) → Decides (some p n) ((k : ℕ) × (k < n) × P k)
+pub decides-some : (p : ℕ → Bool) (P : ℕ → Type 0) → ((k : ℕ) → Decides (p k) (P k)) → (n : ℕ) → Decides (some p n) ((k : ℕ) × (k < n) × P k)
 unfolding some
 decides-some p P each = decides-below-or p P (some p) each refl (λ _. refl)
 

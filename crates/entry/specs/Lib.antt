@@ -3,3 +3,4 @@ pub mod Cells
 pub mod Weights
 pub mod Edits
 pub mod Laws
+pub mod Listings

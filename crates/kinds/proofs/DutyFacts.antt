@@ -5,7 +5,7 @@ use mathlib.Core.Logic.{_⊎_, inl, inr}
 use Prim.Native.Nat.{ℕ, _<_, _≤_}
 use native.Mathlib.Omega.{arith}
 use lib.Dec.{ltb, eqb}
-use Rattle.std.proofs.shelf.Tests.{cases-eq, cond-true, eq-eqb, both-ways}
+use Rattle.std.proofs.shelf.Tests.{cases-eq, cases-bool, cond-true, eq-eqb, ltb-true, both-ways}
 use Rattle.std.proofs.shelf.Ways.{tells}
 use Rattle.entry.specs.Cells.{Meaning, weigh, held, cells, NoGap}
 use Rattle.entry.specs.Edits.{struck, granted, Strikes, Grants}
@@ -141,3 +141,14 @@ module _ (d : Duty) where
   grants-on =
       grants-taken duties two 1 d fits _ refl (no-gap (d .off) true) (on-granted (d .off) (d .on))
       (λ t i. record { off = d .off; on = (sym t ∙ on-is) i })
+
+-- what holds known codes alone is told by codes 0 and 1
+pub either-is : (holds : ℕ → Bool) (off on : Bool) → off ≡ holds 0 → on ≡ holds 1 → ((c : ℕ) → holds c ≡ true → two c ≡ true) → (c : ℕ) → either off on c ≡ holds c
+either-is holds off on e o known c =
+    elim (cases-eq c 0) [
+      inl z ↦ rw z e
+    | inr nz ↦ elim (cases-eq c 1) [
+        inl one ↦ rw one o
+      | inr nor ↦ elim (cases-bool (holds c)) [
+          inl t ↦ absurd (omega (arith, ltb-true c 2 (known c t)))
+        | inr f ↦ grind (arith, tells) ] ] ]

@@ -1,2 +1,3 @@
 pub mod DutyFacts
+pub mod CollectionFacts
 pub mod SpanFacts

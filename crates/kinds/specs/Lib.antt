@@ -1,3 +1,4 @@
 pub mod Codes
 pub mod Duties
+pub mod Collections
 pub mod Spans

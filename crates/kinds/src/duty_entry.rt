@@ -1,7 +1,25 @@
-ghost use Rattle.kinds.specs.Duties.{two, duties};
+ghost use mathlib.Core.Path.{_≡_};
+ghost use Rattle.entry.specs.Refusals.{topmost, told, answered};
+ghost use Rattle.entry.specs.Cells.{cells};
+ghost use Rattle.entry.specs.Listings.{lists, listing-rows};
+ghost use Rattle.kinds.specs.Duties.{two, duties, duty-weight};
 use crate::duty::Duty;
+use entry::listing::listed;
 use entry::refusal::Refusal;
 use entry::traits::Entry;
+
+impl Duty {
+    // The listed codes; refused where one is neither 0 nor 1.
+    pub fn new(codes: &[u32]) -> Result<Duty, Refusal>
+        ensures { λ r. ⌜ told duties r ≡ answered (topmost (listing-rows two (now (codes .entry)))) (cells duty-weight (lists (now (codes .entry)))) ⌝ }
+    {
+        let held = listed::<DutyEntry>(codes)?;
+        Ok(Duty {
+            off: held.contains(0),
+            on: held.contains(1),
+        })
+    }
+}
 
 pub impl Entry for Duty as DutyEntry {
     const TOP: u32 = 1;

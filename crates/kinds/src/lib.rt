@@ -1,5 +1,7 @@
 // The kinds of entry: duty, collection and boxes.
 pub mod boxes;
 pub mod boxes_entry;
+pub mod collection;
+pub mod collection_entry;
 pub mod duty;
 pub mod duty_entry;

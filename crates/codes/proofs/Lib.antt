@@ -1,0 +1,4 @@
+mod Digits
+mod Listed
+pub mod Roads
+pub mod Sets
