@@ -1,13 +1,13 @@
 -- The binary digits of a number, place by place: of what `&`, `|`, `!` and `1 << k` give, and that they make the number.
-use mathlib.Core.Path.{_≡_, refl, sym, ap, ap₂, _∙_}
-use mathlib.Core.Bool.{Bool, true, false, not, _&&_, _||_}
+use mathlib.Core.Path.{_≡_, sym, ap, ap₂, _∙_}
+use mathlib.Core.Bool.{Bool, false, not, _&&_, _||_}
 use Prim.Native.Nat.{ℕ, zero, suc, _*_, _-_, _/_, _%_, _^_, _<_}
 use native.Mathlib.Nat.{div-one, zero-div, pow-suc}
 use native.Mathlib.Numerals.{one-add}
 use native.Mathlib.Omega.{arith}
 use lib.Bits.{bitAnd, bitOr, and-step, or-step, and-shr, or-shr}
-use lib.Dec.{ltb, eqb, leb·suc-zero, leb·suc-suc, eqb·suc-zero, eqb·suc-suc, eqb·zero-suc}
-use lib.Pow.{shr-shr, pow-pos}
+use lib.Dec.{ltb, eqb, leb·suc-zero, leb·suc-suc, eqb·suc-zero, eqb·suc-suc}
+use lib.Pow.{shr-shr}
 use Rattle.std.proofs.shelf.Bits.{one-shl}
 use Rattle.std.proofs.shelf.Ways.{tells}
 use Rattle.codes.specs.Members.{bit}
@@ -53,6 +53,10 @@ bit-pow (suc k) (suc c) =
     let e = pow-suc 2 k in
     bit-up (2 ^ suc k) c ∙ ap (λ m. bit m c) (omega arith) ∙ bit-pow k c ∙ sym (eqb·suc-suc c k)
 
+-- the digits of the word `1 << k`
+pub bit-shl : (k c : ℕ) → k < 64 → bit (1 * 2 ^ k % 2 ^ 64) c ≡ eqb c k
+bit-shl k c h = ap (λ n. bit n c) (one-shl k 64 h) ∙ bit-pow k c
+
 -- the digits make the number
 pub same-digits : (k n m : ℕ) → n < 2 ^ k → m < 2 ^ k → ((c : ℕ) → c < k → bit n c ≡ bit m c) → n ≡ m
 same-digits zero n m h l e = omega arith
@@ -61,7 +65,3 @@ same-digits (suc k) n m h l e =
     let high : n / 2 ≡ m / 2 = same-digits k (n / 2) (m / 2) (omega arith) (omega arith) (λ c i. sym (bit-up n c) ∙ e (suc c) (omega arith) ∙ bit-up m c) in
     let low : eqb (n % 2) 1 ≡ eqb (m % 2) 1 = sym (bit-here n) ∙ e 0 (omega arith) ∙ bit-here m in
     grind (arith, tells)
-
--- the digits of the word `1 << k`
-pub bit-shl : (k c : ℕ) → k < 64 → bit (1 * 2 ^ k % 2 ^ 64) c ≡ eqb c k
-bit-shl k c h = ap (λ n. bit n c) (one-shl k 64 h) ∙ bit-pow k c

@@ -2,24 +2,23 @@
 use mathlib.Core.Path.{_≡_, refl, sym, ap, ap₂, subst, _∙_}
 use mathlib.Core.Bool.{Bool, true, false, not, _&&_, cond}
 use mathlib.Core.List.{List, [], _∷_}
-use mathlib.Core.Logic.{inl, inr, ⊎-elim}
+use mathlib.Core.Logic.{⊎-elim}
 use Prim.Native.Nat.{ℕ, zero, suc, _+_, _/_, _%_, _^_, _≤_, _<_}
 use native.Mathlib.Nat.{add-zero, zero-add, suc-add, pow-suc}
 use native.Mathlib.Omega.{arith}
 use lib.Arith.{lt-one}
 use lib.Count.{ones, ones-step, trailingZeros, under}
-use lib.Dec.{ltb, eqb}
-use lib.ListN.{length, getD}
+use lib.Dec.{eqb}
+use lib.ListN.{length}
 use Rattle.std.specs.Finite.{nth}
 use Rattle.std.specs.Iters.{counting}
-use Rattle.std.specs.Options.{Cases}
 use Rattle.std.specs.shelf.Lists.{kept-by, Has, All}
 use Rattle.std.specs.shelf.Lawful.{Climbs}
-use Rattle.std.specs.declared.option.Option.the-variants.{Some, None}
+use Rattle.std.specs.declared.option.Option.the-variants.{Some}
 use Rattle.std.specs.Orderings.{Decides}
 use Rattle.std.proofs.shelf.Counted.{length-counting, getD-counting}
 use Rattle.std.proofs.shelf.Elements.{has-getD, has-append-right, all-has, all-getD, all-kept-by, kept-by-passes}
-use Rattle.std.proofs.shelf.Tests.{cases-bool, cases-eq, cond-both, true≢false, eqb-true, eqb-false, eq-eqb, ne-eqb, both-ways}
+use Rattle.std.proofs.shelf.Tests.{cases-bool, cases-eq, cond-both, cond-true, cond-false, true≢false}
 use Rattle.std.proofs.shelf.Ways.{tells}
 use Rattle.codes.specs.Members.{bit}
 use Rattle.codes.proofs.Digits.{bit-here, bit-up}
@@ -60,21 +59,13 @@ first-listed p a (suc k) n r h =
     first-step a (trailingZeros k (n / 2)) k (n % 2) (p a) (kept-by p (counting (a + 1) k)) (omega arith) (reads-here p a k n r) h
     (first-listed p (a + 1) k (n / 2) (reads-up p a k n r))
 
--- none passes before the first
-pub first-least : (p : ℕ → Bool) (a k x : ℕ) → nth (kept-by p (counting a k)) 0 ≡ Some x
-    → (p x ≡ true) × ((c : ℕ) → a ≤ c → c < x → p c ≡ false)
-first-least p a zero x e = let z : _≡_ {A = ℕ} 0 1 = cc in absurd (omega arith)
-first-least p a (suc k) x e = ⊎-elim
-    (λ t.
-      let s : a ≡ x = some-is (sym (ap (λ b. nth (cond b (a ∷ kept-by p (counting (a + 1) k)) (kept-by p (counting (a + 1) k))) 0) t) ∙ e) in
-      (ap p (sym s) ∙ t, λ c l h. absurd (omega arith)))
-    (λ t.
-      let h = first-least p (a + 1) k x (sym (ap (λ b. nth (cond b (a ∷ kept-by p (counting (a + 1) k)) (kept-by p (counting (a + 1) k))) 0) t) ∙ e) in
-      (h .0, λ c l m. ⊎-elim (λ q. ap p (sym q) ∙ t) (λ q. h .1 c (omega arith) m) (cases-eq a c)))
-    (cases-bool (p a))
-  where
-    some-is : {x y : ℕ} → Some x ≡ Some y → x ≡ y
-    some-is q = cc
+-- ---- the first place that passes, and the others
+
+kept-here : (p : ℕ → Bool) (a k : ℕ) → p a ≡ true → kept-by p (counting a (suc k)) ≡ a ∷ kept-by p (counting (a + 1) k)
+kept-here p a k t = cond-true (p a) (a ∷ kept-by p (counting (a + 1) k)) (kept-by p (counting (a + 1) k)) t
+
+kept-past : (p : ℕ → Bool) (a k : ℕ) → p a ≡ false → kept-by p (counting a (suc k)) ≡ kept-by p (counting (a + 1) k)
+kept-past p a k t = cond-false (p a) (a ∷ kept-by p (counting (a + 1) k)) (kept-by p (counting (a + 1) k)) t
 
 kept-same : (p q : ℕ → Bool) (a k : ℕ) → ((c : ℕ) → a ≤ c → p c ≡ q c) → kept-by p (counting a k) ≡ kept-by q (counting a k)
 kept-same p q a zero e = refl
@@ -82,29 +73,39 @@ kept-same p q a (suc k) e = ap₂ (λ b xs. cond b (a ∷ xs) xs) (e a (omega ar
 
 pub kept-none : (p : ℕ → Bool) (a k : ℕ) → ((c : ℕ) → p c ≡ false) → kept-by p (counting a k) ≡ []
 kept-none p a zero e = refl
-kept-none p a (suc k) e = ap₂ (λ b xs. cond b (a ∷ xs) xs) (e a) (kept-none p (a + 1) k e)
+kept-none p a (suc k) e = kept-past p a k (e a) ∙ kept-none p (a + 1) k e
 
--- q passes what p does but the first: the first, and the rest
-pub first-and-rest : (p q : ℕ → Bool) (a k x : ℕ) → nth (kept-by p (counting a k)) 0 ≡ Some x
-    → ((c : ℕ) → q c ≡ (p c && not (eqb c x))) → kept-by p (counting a k) ≡ x ∷ kept-by q (counting a k)
-first-and-rest p q a zero x e h = let z : _≡_ {A = ℕ} 0 1 = cc in absurd (omega arith)
-first-and-rest p q a (suc k) x e h = ⊎-elim
-    (λ t.
-      let s : a ≡ x = some-is (sym (at-head t) ∙ e) in
-      let n : q a ≡ false = grind (arith, tells, h a) in
-      let m : kept-by p (counting (a + 1) k) ≡ kept-by q (counting (a + 1) k) = kept-same p q (a + 1) k (λ c l. grind (arith, tells, h c)) in
-      ap (kept-head p) t ∙ ap₂ _∷_ s (m ∙ sym (ap (kept-head q) n)))
-    (λ t.
-      let n : q a ≡ false = grind (arith, h a) in
-      ap (kept-head p) t ∙ first-and-rest p q (a + 1) k x (sym (at-head t) ∙ e) h ∙ ap (λ b. x ∷ kept-head q b) (sym n))
+-- an induction over the range: the first place is x or does not pass
+by-first : (p : ℕ → Bool) (x : ℕ) (P : ℕ → ℕ → Type 0)
+    → ((k : ℕ) → p x ≡ true → P x (suc k)) → ((a k : ℕ) → p a ≡ false → P (a + 1) k → P a (suc k))
+    → (a k : ℕ) → nth (kept-by p (counting a k)) 0 ≡ Some x → P a k
+by-first p x P here past a zero e = let z : _≡_ {A = ℕ} 0 1 = cc in absurd (omega arith)
+by-first p x P here past a (suc k) e = ⊎-elim
+    (λ t. let s : a ≡ x = some-is (sym (ap (λ xs. nth xs 0) (kept-here p a k t)) ∙ e) in subst (λ b. P b (suc k)) (sym s) (here k (ap p (sym s) ∙ t)))
+    (λ t. past a k t (by-first p x P here past (a + 1) k (sym (ap (λ xs. nth xs 0) (kept-past p a k t)) ∙ e)))
     (cases-bool (p a))
   where
-    kept-head : (ℕ → Bool) → Bool → List ℕ
-    kept-head f b = cond b (a ∷ kept-by f (counting (a + 1) k)) (kept-by f (counting (a + 1) k))
-    at-head : {b : Bool} → p a ≡ b → nth (kept-by p (counting a (suc k))) 0 ≡ nth (kept-head p b) 0
-    at-head t = ap (λ b. nth (kept-head p b) 0) t
-    some-is : {x y : ℕ} → Some x ≡ Some y → x ≡ y
-    some-is r = cc
+    some-is : {m n : ℕ} → Some m ≡ Some n → m ≡ n
+    some-is q = cc
+
+-- it passes, and none before it does
+pub first-least : (p : ℕ → Bool) (a k x : ℕ) → nth (kept-by p (counting a k)) 0 ≡ Some x
+    → (p x ≡ true) × ((c : ℕ) → a ≤ c → c < x → p c ≡ false)
+first-least p a k x =
+    by-first p x (λ b n. (p x ≡ true) × ((c : ℕ) → b ≤ c → c < x → p c ≡ false))
+    (λ n t. (t, λ c l m. absurd (omega arith)))
+    (λ b n t h. (h .0, λ c l m. ⊎-elim (λ q. ap p (sym q) ∙ t) (λ q. h .1 c (omega arith) m) (cases-eq b c))) a k
+
+-- q passes the others
+pub first-and-rest : (p q : ℕ → Bool) (a k x : ℕ) → nth (kept-by p (counting a k)) 0 ≡ Some x
+    → ((c : ℕ) → q c ≡ (p c && not (eqb c x))) → kept-by p (counting a k) ≡ x ∷ kept-by q (counting a k)
+first-and-rest p q a k x e h =
+    by-first p x (λ b n. kept-by p (counting b n) ≡ x ∷ kept-by q (counting b n))
+    (λ n t.
+    let same = kept-same p q (x + 1) n (λ c l. grind (arith, tells, h c)) in
+    let past = kept-past q x n (grind (arith, tells, h x)) in
+    kept-here p x n t ∙ ap (λ xs. x ∷ xs) (same ∙ sym past))
+    (λ b n t i. kept-past p b n t ∙ i ∙ ap (λ xs. x ∷ xs) (sym (kept-past q b n (grind (arith, h b))))) a k e
 
 -- ---- what is listed passes, what passes is listed, and the list rises
 

@@ -1,15 +1,14 @@
--- Sets of codes: a code's membership by its digit, and that the members make the set.
+-- Sets of codes: the members make the set, the list of them is as it should be, and what the set's word says of both.
 use mathlib.Core.Path.{_≡_, refl, sym, ap, subst, _∙_}
-use mathlib.Core.Bool.{Bool, true, false, not, _&&_}
+use mathlib.Core.Bool.{true, false, not, _&&_}
 use mathlib.Core.List.{[], _∷_}
 use mathlib.Core.Logic.{⊎-elim}
 use Prim.Native.Nat.{ℕ, _+_, _^_, _<_, zero-le}
 use native.Mathlib.Nat.{zero-add}
 use native.Mathlib.Omega.{arith}
 use borrow.Author.Numbers.{trailing-lt}
-use lib.Count.{ones, trailingZeros}
+use lib.Count.{trailingZeros}
 use lib.Dec.{ltb, eqb}
-use lib.ListN.{length}
 use lib.Pow.{pow-pos}
 use Rattle.std.specs.Finite.{nth}
 use Rattle.std.specs.Orderings.{Decides}
@@ -18,7 +17,8 @@ use Rattle.std.specs.shelf.Lawful.{Climbs}
 use Rattle.std.specs.shelf.Lists.{Has}
 use Rattle.std.proofs.shelf.Tests.{lt-ltb, ltb-true, eqb-true, eq-eqb, and-parts, cases-bool}
 use Rattle.codes.specs.declared.set.CodeSet.{CodeSet}
-use Rattle.codes.specs.Members.{bit, member, members, Listing, WordOf}
+use Rattle.codes.specs.Members.{bit, member, members, Listing}
+use Rattle.codes.specs.Words.{WordOf}
 use Rattle.codes.proofs.Digits.{bit-none, same-digits}
 use Rattle.codes.proofs.Listed.{ones-listed, first-listed, first-least, first-and-rest, kept-none, listed, listed-climbs}
 
@@ -79,7 +79,7 @@ module _ (s : CodeSet) (fits : s .0 < 2 ^ 64) where
     digits = λ c. refl;
     none = (λ t. none-in-zero (eqb-true (s .0) 0 t), λ h. eq-eqb (s .0) 0 (zero-from-none h));
     nil = (λ t. kept-none (member s) 0 64 (none-in-zero (eqb-true (s .0) 0 t)), λ e. eq-eqb (s .0) 0 (zero-from-none (none-in-nil s e)));
-    count = ones-listed (member s) 0 64 (s .0) fits (reads s)
+    count = ones-listed (member s) 0 64 (s .0) fits (reads s);
   }
 
   pub first-is : (s .0 ≡ 0 → ⊥) → nth (members s) 0 ≡ Some (trailingZeros 64 (s .0))

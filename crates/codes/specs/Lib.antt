@@ -1,2 +1,3 @@
-pub mod Members
 pub mod Coming
+pub mod Members
+pub mod Words

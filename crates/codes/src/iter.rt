@@ -1,7 +1,7 @@
 use crate::set::CodeSet;
 ghost use lib.ListN.{length};
-ghost use Rattle.codes.specs.Members.{Listing};
 ghost use Rattle.codes.specs.Coming.{coming, Gives};
+ghost use Rattle.codes.specs.Members.{Listing};
 
 // Gives the codes of a set in rising order, and holds those that are still to come.
 #[derive(Drop)]
@@ -26,7 +26,7 @@ pub impl Iterator for Codes as CodesIterator {
 
     ghost ends = { λ _. Unit {0} };
 
-    ghost left = { λ s. length (coming s) };
+    ghost left = { λ i. length (coming i) };
 
     fn next(&mut self) -> Option<u32> {
         let (code, rest) = self.rest.split_first()?;

@@ -1,5 +1,6 @@
 use crate::iter::Codes;
 use std::ops::BitAnd;
+use std::ops::BitOr;
 use std::ops::Sub;
 ghost use mathlib.Core.Path.{_≡_};
 ghost use mathlib.Core.Bool.{true, false, not, _&&_, _||_};
@@ -10,10 +11,11 @@ ghost use lib.ListN.{length};
 ghost use Rattle.std.specs.Finite.{nth};
 ghost use Rattle.std.specs.Options.{Cases};
 ghost use Rattle.std.specs.Orderings.{Decides};
-ghost use Rattle.codes.specs.Members.{member, members, Listing, WordOf};
 ghost use Rattle.codes.specs.Coming.{coming};
+ghost use Rattle.codes.specs.Members.{member, members, Listing};
+ghost use Rattle.codes.specs.Words.{WordOf, Union, Difference};
 
-// A set of codes. Code c is bit c of the word; a code above 63 is in no set.
+// A set of codes: bit c of the word says whether it has code c. A code above 63 is in no set.
 #[derive(Clone, Copy, PartialEq, Eq, Debug)]
 pub struct CodeSet(u64);
 
@@ -28,7 +30,11 @@ impl CodeSet {
     pub fn single(code: u32) -> CodeSet
         ensures { λ r. ⌜ ((c : ℕ) → member r c ≡ (ltb c 64 && eqb c code)) ⌝ }
     {
-        CodeSet::empty().with(code)
+        if code < 64 {
+            CodeSet(1 << code)
+        } else {
+            CodeSet::empty()
+        }
     }
 
     pub fn contains(self, code: u32) -> bool
@@ -39,23 +45,21 @@ impl CodeSet {
         code < 64 && (word >> code) % 2 == 1
     }
 
+    // A code above 63 changes nothing, nor does one that is in the set.
     pub fn with(self, code: u32) -> CodeSet
         ensures each { λ r. ⌜ ((c : ℕ) → member r c ≡ (member self c || (ltb c 64 && eqb c code))) ⌝ }
         ensures above { λ r. ⌜ (64 ≤ code → r ≡ self) ⌝ }
         ensures held { λ r. ⌜ (member self code ≡ true → r ≡ self) ⌝ }
     {
-        if code < 64 { CodeSet(self.0 | 1 << code) } else { self }
+        self | CodeSet::single(code)
     }
 
+    // A code that is not in the set changes nothing.
     pub fn without(self, code: u32) -> CodeSet
         ensures each { λ r. ⌜ ((c : ℕ) → member r c ≡ (member self c && not (eqb c code))) ⌝ }
         ensures absent { λ r. ⌜ (member self code ≡ false → r ≡ self) ⌝ }
     {
-        if self.contains(code) {
-            self - CodeSet::single(code)
-        } else {
-            self
-        }
+        self - CodeSet::single(code)
     }
 
     pub fn intersection(self, other: CodeSet) -> CodeSet
@@ -71,8 +75,8 @@ impl CodeSet {
     }
 
     pub fn is_empty(self) -> bool
-        ensures members { λ r. ⌜ Decides r ((c : ℕ) → member self c ≡ false) ⌝ }
-        ensures list { λ r. ⌜ Decides r (members self ≡ []) ⌝ }
+        ensures none { λ r. ⌜ Decides r ((c : ℕ) → member self c ≡ false) ⌝ }
+        ensures nil { λ r. ⌜ Decides r (members self ≡ []) ⌝ }
     {
         self.bits() == 0
     }
@@ -109,16 +113,29 @@ impl CodeSet {
         Some((code, self.without(code)))
     }
 
+    // The set whose word is `bits`.
     fn from_bits(bits: u64) -> CodeSet
         ensures { λ r. ⌜ WordOf r bits ⌝ }
     {
         CodeSet(bits)
     }
 
+    // The word of the set.
     fn bits(self) -> u64
         ensures { λ r. ⌜ WordOf self r ⌝ }
     {
         self.0
+    }
+}
+
+// The set operators, as the standard library's sets have them.
+impl BitOr<CodeSet> for CodeSet as CodeSetBitOr {
+    type Output = CodeSet;
+
+    ghost bitors = { Union };
+
+    fn bitor(self, other: CodeSet) -> CodeSet {
+        CodeSet(self.0 | other.0)
     }
 }
 
@@ -135,7 +152,7 @@ impl BitAnd<CodeSet> for CodeSet as CodeSetBitAnd {
 impl Sub<CodeSet> for CodeSet as CodeSetSub {
     type Output = CodeSet;
 
-    ghost subs = { λ s t r. (c : ℕ) → member r c ≡ (member s c && not (member t c)) };
+    ghost subs = { Difference };
 
     fn sub(self, other: CodeSet) -> CodeSet {
         CodeSet(self.0 & !other.0)

@@ -13,7 +13,6 @@ use Rattle.std.proofs.shelf.Lists.{ext-getD, getD-past, set-past, getD-set-same
 use Rattle.std.proofs.shelf.Tests.{cases-lt, cases-eq, lt-ltb, le-ltb, eq-eqb, ne-eqb, ltb-true, eqb-true, and-parts, and-from, and-right, or-left, or-right, or-cases, both-ways, not-true}
 use Rattle.entry.specs.Cells.{Cell, Meaning, vacant, weigh, held, cells, NoGap}
 use Rattle.entry.specs.Edits.{marked, struck, granted}
-use Rattle.entry.specs.Laws.{Strikes-one, Grants-one}
 
 abbrev made : (ℕ → ℕ) → (ℕ → Bool) → ℕ → Cell
 made weighs holds c = record { weight = weighs c; held = holds c }
@@ -45,11 +44,14 @@ module _ (weighs : ℕ → ℕ) (holds : ℕ → Bool) where
 
 -- an edit alters one flag and no weight
 module _ (m : Meaning) (c : ℕ) (holds : Bool) where
+  pub held-marked-other : (k : ℕ) → (k ≡ c → ⊥) → held (marked m c holds) k ≡ held m k
+  held-marked-other k n = ap (λ x. x .held) (getD-set-other m c k _ vacant n)
+
   pub held-marked : (k : ℕ) → c < length m → held (marked m c holds) k ≡ cond (eqb k c) holds (held m k)
   held-marked k h =
       elim (cases-eq k c) [
         inl e ↦ ap (λ i. held (marked m c holds) i) e ∙ ap (λ x. x .held) (getD-set-same m c _ vacant h) ∙ ap (λ b. cond b holds (held m k)) (sym (eq-eqb k c e))
-      | inr n ↦ ap (λ x. x .held) (getD-set-other m c k _ vacant n) ∙ ap (λ b. cond b holds (held m k)) (sym (ne-eqb k c n)) ]
+      | inr n ↦ held-marked-other k n ∙ ap (λ b. cond b holds (held m k)) (sym (ne-eqb k c n)) ]
 
   pub weigh-marked : (k : ℕ) → weigh (marked m c holds) k ≡ weigh m k
   weigh-marked k =
@@ -76,10 +78,11 @@ raised true false = refl
 raised false true = refl
 raised false false = refl
 
-pub strikes-one : Strikes-one
+-- a strike takes its code out and no other, a grant puts its code in and no other
+pub strikes-one : (m : Meaning) (c k : ℕ) → c < length m → (held (struck m c) k ≡ (held m k && not (eqb k c))) × (weigh (struck m c) k ≡ weigh m k)
 strikes-one m c k h = (held-marked m c false k h ∙ cleared (held m k) (eqb k c), weigh-marked m c false k)
 
-pub grants-one : Grants-one
+pub grants-one : (m : Meaning) (c k : ℕ) → c < length m → (held (granted m c) k ≡ (held m k || eqb k c)) × (weigh (granted m c) k ≡ weigh m k)
 grants-one m c k h = (held-marked m c true k h ∙ raised (held m k) (eqb k c), weigh-marked m c true k)
 
 -- a meaning whose cells differ from another's in one flag is that one edited

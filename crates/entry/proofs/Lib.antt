@@ -1,5 +1,4 @@
 pub mod CellFacts
-pub mod ListingFacts
 pub mod Tested
 pub mod Verdicts
 pub mod Weighing

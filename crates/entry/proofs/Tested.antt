@@ -12,7 +12,6 @@ use Rattle.std.proofs.shelf.Tests.{cases-lt, cases-eq, both-ways}
 use Rattle.std.proofs.shelf.Ways.{decides-below-or, decides-and, decides-not, decides-like, decides-ltb, decides-eqb}
 use Rattle.entry.specs.Cells.{Meaning, vacant, weigh, held, NoGap}
 use Rattle.entry.specs.Edits.{some, only, missing, gapless}
-use Rattle.entry.specs.Laws.{Sized}
 
 pub decides-some : (p : ℕ → Bool) (P : ℕ → Type 0) → ((k : ℕ) → Decides (p k) (P k)) → (n : ℕ) → Decides (some p n) ((k : ℕ) × (k < n) × P k)
 unfolding some

@@ -2,8 +2,8 @@
 use mathlib.Core.Path.{_≡_}
 use mathlib.Core.Bool.{Bool, true, false}
 use mathlib.Core.List.{List, map}
-use Prim.Native.Nat.{ℕ, _<_}
-use lib.ListN.{getD}
+use Prim.Native.Nat.{ℕ, _<_, _≤_}
+use lib.ListN.{length, getD}
 use Rattle.std.specs.Iters.{counting}
 
 pub record Cell : Type 0 where
@@ -32,3 +32,7 @@ abbrev pub NoGap : Meaning → Type 0
 NoGap m =
     (a b w : ℕ) → held m a ≡ true → held m b ≡ true → weigh m a < w → w < weigh m b
     → (c : ℕ) × (held m c ≡ true) × (weigh m c ≡ w)
+
+-- 64 cells, and no weight above 63: so is the meaning of every entry
+abbrev pub Sized : Meaning → Type 0
+Sized m = (length m ≡ 64) × ((c : ℕ) → weigh m c ≤ 63)

@@ -6,10 +6,12 @@ use Prim.Native.Nat.{ℕ, zero, suc}
 use lib.Dec.{ltb, eqb}
 use lib.ListN.{set}
 use Rattle.std.specs.Results.{isOk}
+use Rattle.std.specs.Orderings.{Decides}
 use Rattle.std.specs.declared.result.Result.{Result}
+use Rattle.std.specs.declared.result.Result.the-variants.{Ok, Err}
 use Rattle.entry.specs.declared.refusal.Refusal.{Refusal}
 use Rattle.entry.specs.Refusals.{Rows, row, topmost, outcome, answered, unless}
-use Rattle.entry.specs.Cells.{Meaning, held, weigh}
+use Rattle.entry.specs.Cells.{Meaning, held, weigh, NoGap}
 
 -- one code held or not, with its weight and all other cells as they are
 abbrev pub marked : Meaning → ℕ → Bool → Meaning
@@ -52,22 +54,36 @@ grant-rows known m c =
     (not (known c), row 9) ∷
     (not (gapless (granted m c)), row 11) ∷ []
 
--- An edit of the entry x that answers r and leaves y. Where it alters nothing, y is x itself.
-pub record Edited {X : Type 0} (meaning : X → Meaning) (rows : Rows) (edited : Meaning) (Already : Type 0)
+-- An edit of code c at the entry x that answers r and leaves y. The rows decide both; a weight never changes, nor does
+-- another code; what alters nothing leaves x itself; and the test of the law of weights decides the law.
+pub record Edited {X : Type 0} (meaning : X → Meaning) (c : ℕ) (rows : Rows) (edited : Meaning) (Already : Type 0)
   (x : X) (r : Result (Unit {0}) Refusal) (y : X) : Type 0 where
   pub answer : outcome r ≡ answered (topmost rows) tt
   pub after : meaning y ≡ unless (topmost rows) edited (meaning x)
+  pub weights : (k : ℕ) → weigh (meaning y) k ≡ weigh (meaning x) k
+  pub others : (k : ℕ) → (k ≡ c → ⊥) → held (meaning y) k ≡ held (meaning x) k
   pub refused : isOk r ≡ false → y ≡ x
   pub idle : Already → (isOk r ≡ true) × (y ≡ x)
+  pub whole : Decides (gapless edited) (NoGap edited)
 
--- a strike of code c
+-- a strike of code c; the test of the only held code passes where c is held and no other is
 abbrev pub Strikes : {X : Type 0} → (X → Meaning) → (ℕ → Bool) → ℕ → X → Result (Unit {0}) Refusal → X → Type 0
-Strikes meaning known c x =
-    Edited meaning (strike-rows known (meaning x) c) (struck (meaning x) c)
-    ((known c ≡ true) × (held (meaning x) c ≡ false)) x
+Strikes meaning known c x r y =
+    Edited meaning c (strike-rows known (meaning x) c) (struck (meaning x) c)
+    ((known c ≡ true) × (held (meaning x) c ≡ false)) x r y
+    × Decides (only (meaning x) c) ((held (meaning x) c ≡ true) × ((k : ℕ) → held (meaning x) k ≡ true → k ≡ c))
 
 -- a grant of code c
 abbrev pub Grants : {X : Type 0} → (X → Meaning) → (ℕ → Bool) → ℕ → X → Result (Unit {0}) Refusal → X → Type 0
-Grants meaning known c x =
-    Edited meaning (grant-rows known (meaning x) c) (granted (meaning x) c)
-    (held (meaning x) c ≡ true) x
+Grants meaning known c x r y =
+    Edited meaning c (grant-rows known (meaning x) c) (granted (meaning x) c)
+    (held (meaning x) c ≡ true) x r y
+
+-- an edit told as the new entry, or the refusal that leaves the old one
+abbrev pub done : {X : Type 0} → Result X Refusal → Result (Unit {0}) Refusal
+done (Ok y) = Ok tt
+done (Err e) = Err e
+
+abbrev pub left : {X : Type 0} → X → Result X Refusal → X
+left x (Ok y) = y
+left x (Err e) = x

@@ -1,6 +1,4 @@
 // What one day of a plan may hold: the trait that every kind of entry keeps, and the refusals.
-pub mod laws;
-pub mod listing;
 pub mod numbers;
 pub mod refusal;
 pub mod traits;

@@ -9,10 +9,9 @@ use Rattle.std.proofs.shelf.Tests.{both-ways, cases-bool, and-parts, and-cases,
 use Rattle.codes.specs.declared.set.CodeSet.{CodeSet}
 use Rattle.codes.specs.Members.{member}
 use Rattle.codes.proofs.Sets.{member-below}
-use Rattle.entry.specs.Cells.{Meaning, weigh, held, NoGap}
+use Rattle.entry.specs.Cells.{Meaning, weigh, held, NoGap, Sized}
 use Rattle.entry.specs.Edits.{some, struck, granted}
 use Rattle.entry.specs.Weights.{Lightest, Heaviest}
-use Rattle.entry.specs.Laws.{Sized}
 use Rattle.entry.proofs.CellFacts.{length-cells, held-cells, weigh-cells, weigh-below, cells-struck, cells-granted, light-gapless}
 use Rattle.entry.proofs.Tested.{decides-some}
 use Rattle.kinds.specs.declared.collection.Collection.{Collection}
@@ -30,6 +29,10 @@ some-member s =
 
 
 
+
+-- a set that is not empty has a member
+pub found : (s : CodeSet) → (((c : ℕ) → member s c ≡ false) → false ≡ true) → (c : ℕ) × (member s c ≡ true)
+found s full = elim (some-member s) [ inl f ↦ f | inr n ↦ absurd (both-ways false refl (full n)) ]
 
 module _ (x : Collection) where
   abbrev m : Meaning
@@ -93,13 +96,19 @@ module _ (x : Collection) where
         every = λ k _. light k;
       }
 
-  pub heaviest-none : ((c : ℕ) → (holds c && counted c) ≡ false) → Heaviest m 0
-  heaviest-none never =
-      let weightless : (c : ℕ) → held m c ≡ true → weigh m c ≡ 0 =
-          λ c t. counted-none c (elim (and-cases (holds c) (counted c) (never c)) [
-            inl f ↦ absurd (both-ways (holds c) f (sym (held-is c) ∙ t))
-          | inr f ↦ f ]) in
-      record { none = λ _. refl; some = λ c t. (c, t, weightless c t); every = λ c t. omega (arith, weightless c t) }
+  -- where no counted code is held, what is held weighs 0
+  module _ (never : (c : ℕ) → (holds c && counted c) ≡ false) where
+    weightless : (c : ℕ) → held m c ≡ true → weigh m c ≡ 0
+    weightless c t =
+        counted-none c (elim (and-cases (holds c) (counted c) (never c)) [
+          inl f ↦ absurd (both-ways (holds c) f (sym (held-is c) ∙ t))
+        | inr f ↦ f ])
+
+    pub heaviest-none : Heaviest m 0
+    heaviest-none = record { none = λ _. refl; some = λ c t. (c, t, weightless c t); every = λ c t. omega (arith, weightless c t) }
+
+    pub lightest-none : Lightest m 0
+    lightest-none = record { none = λ _. refl; some = λ c t. (c, t, weightless c t); every = λ c t. omega arith }
 
   pub lightest-free : (c : ℕ) → (holds c && not (counted c)) ≡ true → Lightest m 0
   lightest-free c t =
@@ -109,13 +118,6 @@ module _ (x : Collection) where
         some = λ _ _. (c, held-is c ∙ both .0, counted-none c (not-true (counted c) (both .1)));
         every = λ _ _. omega arith;
       }
-
-  pub lightest-empty : ((c : ℕ) → holds c ≡ false) → Lightest m 0
-  lightest-empty never = record {
-    none = λ _. refl;
-    some = λ c t. absurd (both-ways (holds c) (never c) (sym (held-is c) ∙ t));
-    every = λ _ _. omega arith;
-  }
 
   pub lightest-counted : ((c : ℕ) → (holds c && not (counted c)) ≡ false) → (c : ℕ) → holds c ≡ true → Lightest m 1
   lightest-counted never c t =

@@ -7,10 +7,9 @@ use native.Mathlib.Omega.{arith}
 use lib.Dec.{ltb, eqb}
 use Rattle.std.proofs.shelf.Tests.{cases-eq, cases-bool, cond-true, eq-eqb, ltb-true, both-ways}
 use Rattle.std.proofs.shelf.Ways.{tells}
-use Rattle.entry.specs.Cells.{Meaning, weigh, held, cells, NoGap}
+use Rattle.entry.specs.Cells.{Meaning, weigh, held, cells, NoGap, Sized}
 use Rattle.entry.specs.Edits.{struck, granted, Strikes, Grants}
 use Rattle.entry.specs.Weights.{Extreme, Lightest, Heaviest}
-use Rattle.entry.specs.Laws.{Sized}
 use Rattle.entry.proofs.CellFacts.{length-cells, held-cells, held-code, weigh-cells, weigh-below, cells-struck, cells-granted, light-gapless}
 use Rattle.entry.proofs.Verdicts.{strikes-unknown, strikes-only, strikes-taken, grants-unknown, grants-taken}
 use Rattle.std.specs.declared.result.Result.the-variants.{Ok, Err}

@@ -8,10 +8,9 @@ use lib.Dec.{ltb, leb, eqb}
 use lib.ListN.{length}
 use Rattle.std.proofs.shelf.Tests.{and-parts, leb-true, both-ways, le-leb, and-from, cond-true, lt-ltb}
 use Rattle.std.proofs.shelf.Ways.{tells}
-use Rattle.entry.specs.Cells.{Meaning, weigh, held, NoGap}
+use Rattle.entry.specs.Cells.{Meaning, weigh, held, NoGap, Sized}
 use Rattle.entry.specs.Edits.{struck, granted}
 use Rattle.entry.specs.Weights.{Lightest, Heaviest}
-use Rattle.entry.specs.Laws.{Sized}
 use Rattle.entry.proofs.CellFacts.{length-cells, held-code, code-held, code-not, weigh-below, weigh-cells, weigh-marked, cells-struck, cells-granted, struck-stays, struck-was, granted-stays, granted-was}
 use Rattle.kinds.specs.Spans.{spans, spanned}
 

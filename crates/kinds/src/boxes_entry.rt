@@ -1,11 +1,11 @@
 ghost use mathlib.Core.Path.{_≡_};
-ghost use mathlib.Core.Bool.{true, false, _||_};
-ghost use Prim.Native.Nat.{_≤_};
-ghost use lib.Dec.{ltb};
 ghost use Rattle.entry.specs.Refusals.{topmost, told, answered};
 ghost use Rattle.kinds.specs.Codes.{small};
 ghost use Rattle.kinds.specs.Spans.{boxed, spanned, span-rows};
+ghost use Rattle.kinds.specs.Told.{CellOf, WeightsOf, Struck, Granted};
 use crate::boxes::Boxes;
+use crate::cell::Cell;
+use crate::cell::Weights;
 use entry::refusal::Refusal;
 use entry::traits::Entry;
 
@@ -21,6 +21,92 @@ impl Boxes {
             low: low as u8,
             high: high as u8,
         })
+    }
+
+    fn cell(self, code: u32) -> Cell
+        ensures { λ r. ⌜ CellOf (boxed self) code r ⌝ }
+    {
+        if code > 63 {
+            return Cell {
+                weight: 0,
+                held: false,
+            };
+        }
+        Cell {
+            weight: code,
+            held: u32::from(self.low) <= code && code <= u32::from(self.high),
+        }
+    }
+
+    fn weights(self) -> Weights
+        ensures { λ r. ⌜ WeightsOf (boxed self) r ⌝ }
+    {
+        if self.low <= self.high {
+            Weights {
+                lightest: u32::from(self.low),
+                heaviest: u32::from(self.high),
+            }
+        } else {
+            Weights {
+                lightest: 0,
+                heaviest: 0,
+            }
+        }
+    }
+
+    fn struck(self, code: u32) -> Result<Boxes, Refusal>
+        ensures { λ r. ⌜ Struck boxed small code self r ⌝ }
+    {
+        if code > 63 {
+            return Err(Refusal::UnknownCode);
+        }
+        let Boxes { low, high } = self;
+        let code = code as u8;
+        if code < low || high < code {
+            return Ok(self);
+        }
+        if low == high {
+            return Err(Refusal::OnlyCode);
+        }
+        if code == low {
+            return Ok(Boxes {
+                low: low + 1,
+                high,
+            });
+        }
+        if code == high {
+            return Ok(Boxes {
+                low,
+                high: high - 1,
+            });
+        }
+        Err(Refusal::WeightGap)
+    }
+
+    fn granted(self, code: u32) -> Result<Boxes, Refusal>
+        ensures { λ r. ⌜ Granted boxed small code self r ⌝ }
+    {
+        if code > 63 {
+            return Err(Refusal::UnknownCode);
+        }
+        let Boxes { low, high } = self;
+        let code = code as u8;
+        if high < low {
+            return Ok(Boxes {
+                low: code,
+                high: code,
+            });
+        }
+        if low <= code && code <= high {
+            return Ok(self);
+        }
+        if code + 1 == low {
+            return Ok(Boxes { low: code, high });
+        }
+        if high + 1 == code {
+            return Ok(Boxes { low, high: code });
+        }
+        Err(Refusal::WeightGap)
     }
 }
 
@@ -42,64 +128,38 @@ pub impl Entry for Boxes as BoxesEntry {
     }
 
     fn holds(&self, code: u32) -> bool {
-        u32::from(self.low) <= code && code <= u32::from(self.high)
+        self.cell(code).held
     }
 
     fn weight(&self, code: u32) -> u32 {
-        if code < 64 { code } else { 0 }
+        self.cell(code).weight
     }
 
     fn lightest(&self) -> u32 {
-        if self.low <= self.high { u32::from(self.low) } else { 0 }
+        self.weights().lightest
     }
 
     fn heaviest(&self) -> u32 {
-        if self.low <= self.high { u32::from(self.high) } else { 0 }
+        self.weights().heaviest
     }
 
     fn strike(&mut self, code: u32) -> Result<(), Refusal> {
-        if code > 63 {
-            return Err(Refusal::UnknownCode);
+        match self.struck(code) {
+            Ok(entry) => {
+                *self = entry;
+                Ok(())
+            }
+            Err(refusal) => Err(refusal),
         }
-        let code = code as u8;
-        if code < self.low || self.high < code {
-            return Ok(());
-        }
-        if self.low == self.high {
-            return Err(Refusal::OnlyCode);
-        }
-        if code == self.low {
-            self.low += 1;
-            return Ok(());
-        }
-        if code == self.high {
-            self.high -= 1;
-            return Ok(());
-        }
-        Err(Refusal::WeightGap)
     }
 
     fn grant(&mut self, code: u32) -> Result<(), Refusal> {
-        if code > 63 {
-            return Err(Refusal::UnknownCode);
+        match self.granted(code) {
+            Ok(entry) => {
+                *self = entry;
+                Ok(())
+            }
+            Err(refusal) => Err(refusal),
         }
-        let code = code as u8;
-        if self.high < self.low {
-            self.low = code;
-            self.high = code;
-            return Ok(());
-        }
-        if self.low <= code && code <= self.high {
-            return Ok(());
-        }
-        if code + 1 == self.low {
-            self.low = code;
-            return Ok(());
-        }
-        if self.high + 1 == code {
-            self.high = code;
-            return Ok(());
-        }
-        Err(Refusal::WeightGap)
     }
 }

@@ -1,12 +1,14 @@
 ghost use mathlib.Core.Path.{_≡_};
 ghost use mathlib.Core.List.{_++_};
 ghost use Rattle.entry.specs.Refusals.{topmost, told, answered};
-ghost use Rattle.entry.specs.Listings.{lists, listing-rows};
+ghost use Rattle.kinds.specs.Listings.{lists, listing-rows};
 ghost use Rattle.kinds.specs.Codes.{small};
 ghost use Rattle.kinds.specs.Collections.{collected, counting};
+ghost use Rattle.kinds.specs.Told.{CellOf, WeightsOf, Struck, Granted};
+use crate::cell::Cell;
+use crate::cell::Weights;
 use crate::collection::Collection;
-use codes::set::CodeSet;
-use entry::listing::listed;
+use crate::listing::listed;
 use entry::refusal::Refusal;
 use entry::traits::Entry;
 
@@ -18,6 +20,64 @@ impl Collection {
         let held = listed::<CollectionEntry>(codes)?;
         let counted = listed::<CollectionEntry>(counts)?;
         Ok(Collection { held, counted })
+    }
+
+    fn cell(self, code: u32) -> Cell
+        ensures { λ r. ⌜ CellOf (collected self) code r ⌝ }
+    {
+        Cell {
+            weight: if self.counted.contains(code) { 1 } else { 0 },
+            held: self.held.contains(code),
+        }
+    }
+
+    fn weights(self) -> Weights
+        ensures { λ r. ⌜ WeightsOf (collected self) r ⌝ }
+    {
+        let counting = self.held.intersection(self.counted);
+        let free = self.held.difference(self.counted);
+        match (free.is_empty(), counting.is_empty()) {
+            (_, true) => Weights {
+                lightest: 0,
+                heaviest: 0,
+            },
+            (false, false) => Weights {
+                lightest: 0,
+                heaviest: 1,
+            },
+            (true, false) => Weights {
+                lightest: 1,
+                heaviest: 1,
+            },
+        }
+    }
+
+    fn struck(self, code: u32) -> Result<Collection, Refusal>
+        ensures { λ r. ⌜ Struck collected small code self r ⌝ }
+    {
+        if code > 63 {
+            return Err(Refusal::UnknownCode);
+        }
+        let rest = self.held.without(code);
+        if rest.is_empty() && self.held.contains(code) {
+            return Err(Refusal::OnlyCode);
+        }
+        Ok(Collection {
+            held: rest,
+            counted: self.counted,
+        })
+    }
+
+    fn granted(self, code: u32) -> Result<Collection, Refusal>
+        ensures { λ r. ⌜ Granted collected small code self r ⌝ }
+    {
+        if code > 63 {
+            return Err(Refusal::UnknownCode);
+        }
+        Ok(Collection {
+            held: self.held.with(code),
+            counted: self.counted,
+        })
     }
 }
 
@@ -39,40 +99,38 @@ pub impl Entry for Collection as CollectionEntry {
     }
 
     fn holds(&self, code: u32) -> bool {
-        self.held.contains(code)
+        self.cell(code).held
     }
 
     fn weight(&self, code: u32) -> u32 {
-        if self.counted.contains(code) { 1 } else { 0 }
+        self.cell(code).weight
     }
 
     fn lightest(&self) -> u32 {
-        let free = self.held.difference(self.counted);
-        if free.is_empty() && !self.held.is_empty() { 1 } else { 0 }
+        self.weights().lightest
     }
 
     fn heaviest(&self) -> u32 {
-        let counting = self.held.intersection(self.counted);
-        if counting.is_empty() { 0 } else { 1 }
+        self.weights().heaviest
     }
 
     fn strike(&mut self, code: u32) -> Result<(), Refusal> {
-        if code > 63 {
-            return Err(Refusal::UnknownCode);
+        match self.struck(code) {
+            Ok(entry) => {
+                *self = entry;
+                Ok(())
+            }
+            Err(refusal) => Err(refusal),
         }
-        let rest = self.held.without(code);
-        if rest.is_empty() && self.held.contains(code) {
-            return Err(Refusal::OnlyCode);
-        }
-        self.held = rest;
-        Ok(())
     }
 
     fn grant(&mut self, code: u32) -> Result<(), Refusal> {
-        if code > 63 {
-            return Err(Refusal::UnknownCode);
+        match self.granted(code) {
+            Ok(entry) => {
+                *self = entry;
+                Ok(())
+            }
+            Err(refusal) => Err(refusal),
         }
-        self.held = self.held.with(code);
-        Ok(())
     }
 }

@@ -1,10 +1,13 @@
 ghost use mathlib.Core.Path.{_≡_};
 ghost use Rattle.entry.specs.Refusals.{topmost, told, answered};
 ghost use Rattle.entry.specs.Cells.{cells};
-ghost use Rattle.entry.specs.Listings.{lists, listing-rows};
+ghost use Rattle.kinds.specs.Listings.{lists, listing-rows};
 ghost use Rattle.kinds.specs.Duties.{two, duties, duty-weight};
+ghost use Rattle.kinds.specs.Told.{CellOf, WeightsOf, Struck, Granted};
+use crate::cell::Cell;
+use crate::cell::Weights;
 use crate::duty::Duty;
-use entry::listing::listed;
+use crate::listing::listed;
 use entry::refusal::Refusal;
 use entry::traits::Entry;
 
@@ -18,6 +21,78 @@ impl Duty {
             off: held.contains(0),
             on: held.contains(1),
         })
+    }
+
+    fn cell(self, code: u32) -> Cell
+        ensures { λ r. ⌜ CellOf (duties self) code r ⌝ }
+    {
+        match code {
+            0 => Cell {
+                weight: 0,
+                held: self.off,
+            },
+            1 => Cell {
+                weight: 1,
+                held: self.on,
+            },
+            _ => Cell {
+                weight: 0,
+                held: false,
+            },
+        }
+    }
+
+    fn weights(self) -> Weights
+        ensures { λ r. ⌜ WeightsOf (duties self) r ⌝ }
+    {
+        match (self.off, self.on) {
+            (_, false) => Weights {
+                lightest: 0,
+                heaviest: 0,
+            },
+            (true, true) => Weights {
+                lightest: 0,
+                heaviest: 1,
+            },
+            (false, true) => Weights {
+                lightest: 1,
+                heaviest: 1,
+            },
+        }
+    }
+
+    fn struck(self, code: u32) -> Result<Duty, Refusal>
+        ensures { λ r. ⌜ Struck duties two code self r ⌝ }
+    {
+        match code {
+            0 if self.off && !self.on => Err(Refusal::OnlyCode),
+            1 if self.on && !self.off => Err(Refusal::OnlyCode),
+            0 => Ok(Duty {
+                off: false,
+                on: self.on,
+            }),
+            1 => Ok(Duty {
+                off: self.off,
+                on: false,
+            }),
+            _ => Err(Refusal::UnknownCode),
+        }
+    }
+
+    fn granted(self, code: u32) -> Result<Duty, Refusal>
+        ensures { λ r. ⌜ Granted duties two code self r ⌝ }
+    {
+        match code {
+            0 => Ok(Duty {
+                off: true,
+                on: self.on,
+            }),
+            1 => Ok(Duty {
+                off: self.off,
+                on: true,
+            }),
+            _ => Err(Refusal::UnknownCode),
+        }
     }
 }
 
@@ -39,47 +114,38 @@ pub impl Entry for Duty as DutyEntry {
     }
 
     fn holds(&self, code: u32) -> bool {
-        match code {
-            0 => self.off,
-            1 => self.on,
-            _ => false,
-        }
+        self.cell(code).held
     }
 
     fn weight(&self, code: u32) -> u32 {
-        if code == 1 { 1 } else { 0 }
+        self.cell(code).weight
     }
 
     fn lightest(&self) -> u32 {
-        if self.on && !self.off { 1 } else { 0 }
+        self.weights().lightest
     }
 
     fn heaviest(&self) -> u32 {
-        if self.on { 1 } else { 0 }
+        self.weights().heaviest
     }
 
     fn strike(&mut self, code: u32) -> Result<(), Refusal> {
-        match code {
-            0 if self.off && !self.on => Err(Refusal::OnlyCode),
-            1 if self.on && !self.off => Err(Refusal::OnlyCode),
-            0 => {
-                self.off = false;
+        match self.struck(code) {
+            Ok(entry) => {
+                *self = entry;
                 Ok(())
             }
-            1 => {
-                self.on = false;
-                Ok(())
-            }
-            _ => Err(Refusal::UnknownCode),
+            Err(refusal) => Err(refusal),
         }
     }
 
     fn grant(&mut self, code: u32) -> Result<(), Refusal> {
-        match code {
-            0 => self.off = true,
-            1 => self.on = true,
-            _ => return Err(Refusal::UnknownCode),
+        match self.granted(code) {
+            Ok(entry) => {
+                *self = entry;
+                Ok(())
+            }
+            Err(refusal) => Err(refusal),
         }
-        Ok(())
     }
 }

@@ -32,6 +32,6 @@ pub returns : need.returns
 returns c = λ k.
     let xs = c .loop-code .yielded in
     let all : coming (c .codes-code-items .result) ≡ xs =
-        ap coming (sym (c .into-iter-code-iterator .ensures .becomes)) ∙ came (c .into-iter-code-iterator .result) xs (c .loop-code .code-iterator) (c .loop-code .yielded-by)
-        ∙ ap (λ ys. xs ++ ys) (c .in-None .ensures tt .steps .0) ∙ append-nil xs in
+    ap coming (sym (c .into-iter-code-iterator .ensures .becomes)) ∙ came (c .into-iter-code-iterator .result) xs (c .loop-code .code-iterator) (c .loop-code .yielded-by)
+    ∙ ap (λ ys. xs ++ ys) (c .in-None .ensures tt .steps .0) ∙ append-nil xs in
     same-from-decides _ _ (c .loop-code .inv k) (subst (λ ys. Decides (member (c .args .set) k) (Has ys k)) all (c .codes-code-items .ensures .exact k))

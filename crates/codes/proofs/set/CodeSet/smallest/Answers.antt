@@ -1,4 +1,4 @@
-use mathlib.Core.Path.{_≡_, sym}
+use mathlib.Core.Path.{sym}
 use Prim.Native.Nat.{_<_, _^_}
 use native.Mathlib.Omega.{arith}
 use lib.Count.{trailingZeros}
@@ -10,5 +10,5 @@ pub returns-else-is-empty : need.returns-else-is-empty
 returns-else-is-empty c =
     let s = c .args .self in
     let fits : s .0 < 2 ^ 64 = omega arith in
-    let found = first-is s fits (λ e. both-ways _ (c .if-is-empty .left) (c .is-empty .ensures .members .1 (none-in-zero s fits e))) in
+    let found = first-is s fits (λ e. both-ways _ (c .if-is-empty .left) (c .is-empty .ensures .none .1 (none-in-zero s fits e))) in
     record { first = sym found; least = first-is-least s (trailingZeros 64 (s .0)) found }

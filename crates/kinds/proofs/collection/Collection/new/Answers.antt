@@ -4,8 +4,8 @@ use mathlib.Core.List.{_++_}
 use Rattle.std.specs.declared.result.Result.the-variants.{Ok, Err}
 use Rattle.std.proofs.shelf.Results.{err-from-errBy}
 use Rattle.codes.specs.Members.{member}
-use Rattle.entry.specs.Listings.{lists, all-known}
-use Rattle.entry.proofs.ListingFacts.{all-taken, one-refused, taken-all, refused-one, all-known-append}
+use Rattle.kinds.specs.Listings.{lists, all-known}
+use Rattle.kinds.proofs.ListingFacts.{all-taken, one-refused, taken-all, refused-one, all-known-append}
 use Rattle.kinds.specs.Codes.{small}
 use Rattle.kinds.specs.Collections.{counting}
 use Rattle.kinds.proofs.collection.Collection.new.Needs as need

@@ -3,8 +3,8 @@ use mathlib.Core.Bool.{Bool}
 use Prim.Native.Nat.{ℕ}
 use Rattle.std.specs.declared.result.Result.the-variants.{Ok}
 use Rattle.entry.specs.Cells.{cells}
-use Rattle.entry.specs.Listings.{lists}
-use Rattle.entry.proofs.ListingFacts.{taken-all, all-taken, listed-known}
+use Rattle.kinds.specs.Listings.{lists}
+use Rattle.kinds.proofs.ListingFacts.{taken-all, all-taken, listed-known}
 use Rattle.kinds.specs.Duties.{two, duty-weight, either}
 use Rattle.kinds.proofs.DutyFacts.{either-is}
 use Rattle.kinds.proofs.duty.Duty.new.Needs as need

@@ -1,0 +1,18 @@
+use mathlib.Core.Path.{subst, sym}
+use Rattle.entry.specs.Weights.{Lightest, Heaviest}
+use Rattle.kinds.specs.Spans.{boxed}
+use Rattle.kinds.proofs.Telling.{weights-of}
+use Rattle.kinds.proofs.SpanFacts.{lightest-low, heaviest-high, lightest-none, heaviest-none}
+use Rattle.kinds.proofs.boxes.Boxes.weights.Needs as need
+
+pub returns-then-self : need.returns-then-self
+returns-then-self c =
+    let b = c .args .self in
+    weights-of (boxed b) _ _
+    (subst (Lightest (boxed b)) (sym (c .from .ensures)) (lightest-low (b .low) (b .high) (c .if-self .taken) (b .codes .1)))
+    (subst (Heaviest (boxed b)) (sym (c .from-then-self .ensures)) (heaviest-high (b .low) (b .high) (c .if-self .taken) (b .codes .1)))
+
+pub returns-else-self : need.returns-else-self
+returns-else-self c =
+    let b = c .args .self in
+    weights-of (boxed b) 0 0 (lightest-none (b .low) (b .high) (c .if-self .left)) (heaviest-none (b .low) (b .high) (c .if-self .left))

@@ -1,0 +1,26 @@
+use native.Mathlib.Omega.{arith}
+use Rattle.std.proofs.shelf.Ways.{tells}
+use Rattle.entry.proofs.CellFacts.{held-cells, weigh-cells}
+use Rattle.kinds.specs.Duties.{duty-weight, either}
+use Rattle.kinds.proofs.duty.Duty.cell.Needs as need
+
+pub returns-in-0 : need.returns-in-0
+returns-in-0 c =
+    let d = c .args .self in
+    let w = weigh-cells duty-weight (either (d .off) (d .on)) (c .args .code) in
+    let h = held-cells duty-weight (either (d .off) (d .on)) (c .args .code) in
+    record { weight = grind (arith, tells); held = grind (arith, tells) }
+
+pub returns-in-1 : need.returns-in-1
+returns-in-1 c =
+    let d = c .args .self in
+    let w = weigh-cells duty-weight (either (d .off) (d .on)) (c .args .code) in
+    let h = held-cells duty-weight (either (d .off) (d .on)) (c .args .code) in
+    record { weight = grind (arith, tells); held = grind (arith, tells) }
+
+pub returns-in-rest : need.returns-in-rest
+returns-in-rest c =
+    let d = c .args .self in
+    let w = weigh-cells duty-weight (either (d .off) (d .on)) (c .args .code) in
+    let h = held-cells duty-weight (either (d .off) (d .on)) (c .args .code) in
+    record { weight = grind (arith, tells); held = grind (arith, tells) }
