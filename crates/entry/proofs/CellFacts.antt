@@ -33,14 +33,16 @@ module _ (weighs : ℕ → ℕ) (holds : ℕ → Bool) where
   pub held-cells : (c : ℕ) → held (cells weighs holds) c ≡ (ltb c 64 && holds c)
   held-cells c =
       elim (cases-lt c 64) [
-        inl h ↦ ap (λ x. x .held) (at c h) ∙ ap (λ b. b && holds c) (sym (lt-ltb c 64 h))
-      | inr h ↦ ap (λ x. x .held) (past c h) ∙ ap (λ b. b && holds c) (sym (le-ltb c 64 h)) ]
+        | inl h ↦ ap (λ x. x .held) (at c h) ∙ ap (λ b. b && holds c) (sym (lt-ltb c 64 h))
+        | inr h ↦ ap (λ x. x .held) (past c h) ∙ ap (λ b. b && holds c) (sym (le-ltb c 64 h))
+      ]
 
   pub weigh-cells : (c : ℕ) → weigh (cells weighs holds) c ≡ cond (ltb c 64) (weighs c) 0
   weigh-cells c =
       elim (cases-lt c 64) [
-        inl h ↦ ap (λ x. x .weight) (at c h) ∙ ap (λ b. cond b (weighs c) 0) (sym (lt-ltb c 64 h))
-      | inr h ↦ ap (λ x. x .weight) (past c h) ∙ ap (λ b. cond b (weighs c) 0) (sym (le-ltb c 64 h)) ]
+        | inl h ↦ ap (λ x. x .weight) (at c h) ∙ ap (λ b. cond b (weighs c) 0) (sym (lt-ltb c 64 h))
+        | inr h ↦ ap (λ x. x .weight) (past c h) ∙ ap (λ b. cond b (weighs c) 0) (sym (le-ltb c 64 h))
+      ]
 
 -- an edit alters one flag and no weight
 module _ (m : Meaning) (c : ℕ) (holds : Bool) where
@@ -50,16 +52,19 @@ module _ (m : Meaning) (c : ℕ) (holds : Bool) where
   pub held-marked : (k : ℕ) → c < length m → held (marked m c holds) k ≡ cond (eqb k c) holds (held m k)
   held-marked k h =
       elim (cases-eq k c) [
-        inl e ↦ ap (λ i. held (marked m c holds) i) e ∙ ap (λ x. x .held) (getD-set-same m c _ vacant h) ∙ ap (λ b. cond b holds (held m k)) (sym (eq-eqb k c e))
-      | inr n ↦ held-marked-other k n ∙ ap (λ b. cond b holds (held m k)) (sym (ne-eqb k c n)) ]
+        | inl e ↦ ap (λ i. held (marked m c holds) i) e ∙ ap (λ x. x .held) (getD-set-same m c _ vacant h) ∙ ap (λ b. cond b holds (held m k)) (sym (eq-eqb k c e))
+        | inr n ↦ held-marked-other k n ∙ ap (λ b. cond b holds (held m k)) (sym (ne-eqb k c n))
+      ]
 
   pub weigh-marked : (k : ℕ) → weigh (marked m c holds) k ≡ weigh m k
   weigh-marked k =
       elim (cases-lt c (length m)) [
-        inl h ↦ elim (cases-eq k c) [
-          inl e ↦ ap (λ i. weigh (marked m c holds) i) e ∙ ap (λ x. x .weight) (getD-set-same m c _ vacant h) ∙ ap (weigh m) (sym e)
-        | inr n ↦ ap (λ x. x .weight) (getD-set-other m c k _ vacant n) ]
-      | inr h ↦ ap (λ x. weigh x k) (set-past m c _ h) ]
+        | inl h ↦ elim (cases-eq k c) [
+          | inl e ↦ ap (λ i. weigh (marked m c holds) i) e ∙ ap (λ x. x .weight) (getD-set-same m c _ vacant h) ∙ ap (weigh m) (sym e)
+          | inr n ↦ ap (λ x. x .weight) (getD-set-other m c k _ vacant n)
+        ]
+        | inr h ↦ ap (λ x. weigh x k) (set-past m c _ h)
+      ]
 
 -- two meanings with the same cells are equal
 pub same-cells : (m n : Meaning) → length m ≡ length n → ((k : ℕ) → weigh m k ≡ weigh n k) → ((k : ℕ) → held m k ≡ held n k) → m ≡ n
@@ -97,11 +102,12 @@ module _ (weighs : ℕ → ℕ) (holds after : ℕ → Bool) (c : ℕ) (below : 
       flags : (k : ℕ) → (ltb k 64 && after k) ≡ cond (eqb k c) flag (ltb k 64 && holds k)
       flags k =
           elim (cases-lt k 64) [
-            inl h ↦ let e : ltb k 64 ≡ true = lt-ltb k 64 h in rw e (agree k h)
-          | inr h ↦
-            let e : ltb k 64 ≡ false = le-ltb k 64 h in
-            let n : eqb k c ≡ false = ne-eqb k c (λ q. omega arith) in
-            rw (e, n) refl ]
+            | inl h ↦ let e : ltb k 64 ≡ true = lt-ltb k 64 h in rw e (agree k h)
+            | inr h ↦
+                let e : ltb k 64 ≡ false = le-ltb k 64 h in
+                let n : eqb k c ≡ false = ne-eqb k c (λ q. omega arith) in
+                rw (e, n) refl
+          ]
 
   pub cells-struck : ((k : ℕ) → k < 64 → after k ≡ (holds k && not (eqb k c))) → cells weighs after ≡ struck (cells weighs holds) c
   cells-struck agree = one-flag false (λ k h. agree k h ∙ sym (cleared (holds k) (eqb k c)))
@@ -125,8 +131,9 @@ module _ (weighs : ℕ → ℕ) (holds : ℕ → Bool) where
   pub weigh-below : (n : ℕ) → ((c : ℕ) → c < 64 → weighs c ≤ n) → (c : ℕ) → weigh (cells weighs holds) c ≤ n
   weigh-below n low c =
       elim (cases-lt c 64) [
-        inl h ↦ omega (arith, weigh-cells weighs holds c ∙ ap (λ b. cond b (weighs c) 0) (lt-ltb c 64 h), low c h)
-      | inr h ↦ omega (arith, weigh-cells weighs holds c ∙ ap (λ b. cond b (weighs c) 0) (le-ltb c 64 h)) ]
+        | inl h ↦ omega (arith, weigh-cells weighs holds c ∙ ap (λ b. cond b (weighs c) 0) (lt-ltb c 64 h), low c h)
+        | inr h ↦ omega (arith, weigh-cells weighs holds c ∙ ap (λ b. cond b (weighs c) 0) (le-ltb c 64 h))
+      ]
 
 -- what an edit leaves held, as facts
 module _ (m : Meaning) (c : ℕ) (below : c < length m) where

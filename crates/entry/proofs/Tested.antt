@@ -24,8 +24,9 @@ decides-itself b = (λ e. e, λ e. e)
 held-below : (m : Meaning) → length m ≡ 64 → (c : ℕ) → held m c ≡ true → c < 64
 held-below m long c h =
     elim (cases-lt c 64) [
-      inl l ↦ l
-    | inr g ↦ absurd (both-ways (held m c) (ap (λ x. x .held) (getD-past m c vacant (omega arith))) h) ]
+      | inl l ↦ l
+      | inr g ↦ absurd (both-ways (held m c) (ap (λ x. x .held) (getD-past m c vacant (omega arith))) h)
+    ]
 
 -- some held code passes
 module _ (m : Meaning) (long : length m ≡ 64) where
@@ -72,8 +73,9 @@ module _ (m : Meaning) (long : length m ≡ 64) where
   decides-gapless low =
       decides-like _
       (λ none a b w ha hb la lb.
-        elim (settled _ (weighing w)) [
-          inl found ↦ found
-        | inr never ↦ absurd (none (w, omega (arith, low b), ((a, ha, la), ((b, hb, lb), never)))) ])
+      elim (settled _ (weighing w)) [
+        | inl found ↦ found
+        | inr never ↦ absurd (none (w, omega (arith, low b), ((a, ha, la), ((b, hb, lb), never))))
+      ])
       (λ whole f. f .2 .1 .1 (whole (f .2 .0 .0) (f .2 .1 .0 .0) (f .0) (f .2 .0 .1) (f .2 .1 .0 .1) (f .2 .0 .2) (f .2 .1 .0 .2)))
       (decides-not _ (decides-some (missing m) Missing decides-missing 64))

@@ -28,8 +28,9 @@ any-held : (m : Meaning) → ((c : ℕ) × (held m c ≡ true)) ⊎ ((c : ℕ) �
 any-held [] = inr (λ c. refl)
 any-held (x ∷ m) =
     elim (cases-bool (x .held)) [
-      inl h ↦ inl (0, h)
-    | inr h ↦ elim (any-held m) [ inl f ↦ inl (suc (f .0), f .1) | inr n ↦ inr (each (λ c. held (x ∷ m) c ≡ false) h n) ] ]
+      | inl h ↦ inl (0, h)
+      | inr h ↦ elim (any-held m) [ inl f ↦ inl (suc (f .0), f .1) | inr n ↦ inr (each (λ c. held (x ∷ m) c ≡ false) h n) ]
+    ]
 
 -- the order in which a choice of one of two is ahead of both
 record Ordered (pick : ℕ → ℕ → ℕ) (Ahead : ℕ → ℕ → Type 0) : Type 0 where
@@ -52,10 +53,11 @@ module _ (pick : ℕ → ℕ → ℕ) (Ahead : ℕ → ℕ → Type 0) (o : Orde
     best-first h b = record {
       start = o .further best (pick n (x .weight)) n (b .start) (o .left n (x .weight));
       every = each (λ c. held (x ∷ m) c ≡ true → Ahead best (weigh (x ∷ m) c))
-        (λ _. o .further best (pick n (x .weight)) (x .weight) (b .start) (o .right n (x .weight))) (b .every);
+          (λ _. o .further best (pick n (x .weight)) (x .weight) (b .start) (o .right n (x .weight))) (b .every);
       one-of = elim (b .one-of) [
-          inl e ↦ elim (o .one n (x .weight)) [ inl f ↦ inl (e ∙ f) | inr f ↦ inr (0, h, sym (e ∙ f)) ]
-        | inr f ↦ inr (suc (f .0), f .1, f .2) ];
+        | inl e ↦ elim (o .one n (x .weight)) [ inl f ↦ inl (e ∙ f) | inr f ↦ inr (0, h, sym (e ∙ f)) ]
+        | inr f ↦ inr (suc (f .0), f .1, f .2)
+      ];
     }
 
     best-later : x .held ≡ false → Best best n m → Best best n (x ∷ m)
@@ -76,7 +78,7 @@ module _ (pick : ℕ → ℕ → ℕ) (Ahead : ℕ → ℕ → Type 0) (o : Orde
     extreme-later h b = record {
       none = λ never. b .none (λ c. never (suc c));
       some = each (λ c. held (x ∷ m) c ≡ true → (k : ℕ) × (held (x ∷ m) k ≡ true) × (weigh (x ∷ m) k ≡ best))
-        (λ t. absurd (both-ways (x .held) h t)) (λ c t. let f = b .some c t in (suc (f .0), f .1, f .2));
+          (λ t. absurd (both-ways (x .held) h t)) (λ c t. let f = b .some c t in (suc (f .0), f .1, f .2));
       every = each (λ c. held (x ∷ m) c ≡ true → Ahead best (weigh (x ∷ m) c)) (λ t. absurd (both-ways (x .held) h t)) (b .every);
     }
 
@@ -85,8 +87,9 @@ module _ (pick : ℕ → ℕ → ℕ) (Ahead : ℕ → ℕ → Type 0) (o : Orde
   folds [] n = record { start = o .itself n; every = λ c h. absurd (both-ways false refl h); one-of = inl refl }
   folds (x ∷ m) n =
       elim (cases-bool (x .held)) [
-        inl h ↦ rw (first-held x m h) (best-first x m _ n h (folds m (pick n (x .weight))))
-      | inr h ↦ rw (first-not x m h) (best-later x m _ n h (folds m n)) ]
+        | inl h ↦ rw (first-held x m h) (best-first x m _ n h (folds m (pick n (x .weight))))
+        | inr h ↦ rw (first-not x m h) (best-later x m _ n h (folds m n))
+      ]
 
   -- what is worked out meets the meaning
   extreme : (m : Meaning) → Extreme Ahead m (chosen pick (held-weights m))
@@ -94,20 +97,22 @@ module _ (pick : ℕ → ℕ → ℕ) (Ahead : ℕ → ℕ → Type 0) (o : Orde
   extreme [] = record { none = λ _. refl; some = λ c h. absurd (both-ways false refl h); every = λ c h. absurd (both-ways false refl h) }
   extreme (x ∷ m) =
       elim (cases-bool (x .held)) [
-        inl h ↦ rw (first-held x m h) (extreme-first x m _ 0 h (folds m (x .weight)))
-      | inr h ↦ rw (first-not x m h) (extreme-later x m _ 0 h (extreme m)) ]
+        | inl h ↦ rw (first-held x m h) (extreme-first x m _ 0 h (folds m (x .weight)))
+        | inr h ↦ rw (first-not x m h) (extreme-later x m _ 0 h (extreme m))
+      ]
 
   -- and nothing else does
   unique : (m : Meaning) (v w : ℕ) → Extreme Ahead m v → Extreme Ahead m w → v ≡ w
   unique m v w p q =
       elim (any-held m) [
-        inl f ↦
-          let a = p .some (f .0) (f .1) in
-          let b = q .some (f .0) (f .1) in
-          o .equal v w
-          (subst (λ k. Ahead v k) (b .2) (p .every (b .0) (b .1)))
-          (subst (λ k. Ahead w k) (a .2) (q .every (a .0) (a .1)))
-      | inr never ↦ p .none never ∙ sym (q .none never) ]
+        | inl f ↦
+            let a = p .some (f .0) (f .1) in
+            let b = q .some (f .0) (f .1) in
+            o .equal v w
+            (subst (λ k. Ahead v k) (b .2) (p .every (b .0) (b .1)))
+            (subst (λ k. Ahead w k) (a .2) (q .every (a .0) (a .1)))
+        | inr never ↦ p .none never ∙ sym (q .none never)
+      ]
 
 lightest-ordered : Ordered min (λ w v. w ≤ v)
 lightest-ordered = record {

@@ -57,7 +57,7 @@ grant-rows known m c =
 -- An edit of code c at the entry x that answers r and leaves y. The rows decide both; a weight never changes, nor does
 -- another code; what alters nothing leaves x itself; and the test of the law of weights decides the law.
 pub record Edited {X : Type 0} (meaning : X → Meaning) (c : ℕ) (rows : Rows) (edited : Meaning) (Already : Type 0)
-  (x : X) (r : Result (Unit {0}) Refusal) (y : X) : Type 0 where
+    (x : X) (r : Result (Unit {0}) Refusal) (y : X) : Type 0 where
   pub answer : outcome r ≡ answered (topmost rows) tt
   pub after : meaning y ≡ unless (topmost rows) edited (meaning x)
   pub weights : (k : ℕ) → weigh (meaning y) k ≡ weigh (meaning x) k

@@ -22,13 +22,12 @@ pub some-member : (s : CodeSet) → ((c : ℕ) × (member s c ≡ true)) ⊎ ((c
 some-member s =
     let found = decides-some (member s) (λ c. member s c ≡ true) (λ c. (λ t. t, λ t. t)) 64 in
     elim (cases-bool (some (member s) 64)) [
-      inl t ↦ let f = found .0 t in inl (f .0, f .2)
-    | inr f ↦ inr (λ c. elim (cases-bool (member s c)) [
-        inl t ↦ absurd (both-ways (some (member s) 64) f (found .1 (c, member-below s c t, t)))
-      | inr n ↦ n ]) ]
-
-
-
+      | inl t ↦ let f = found .0 t in inl (f .0, f .2)
+      | inr f ↦ inr (λ c. elim (cases-bool (member s c)) [
+        | inl t ↦ absurd (both-ways (some (member s) 64) f (found .1 (c, member-below s c t, t)))
+        | inr n ↦ n
+      ])
+    ]
 
 -- a set that is not empty has a member
 pub found : (s : CodeSet) → (((c : ℕ) → member s c ≡ false) → false ≡ true) → (c : ℕ) × (member s c ≡ true)
@@ -59,8 +58,9 @@ module _ (x : Collection) where
   held-is c =
       held-cells weighs (member (x .held)) c
       ∙ elim (cases-bool (member (x .held) c)) [
-          inl t ↦ and-from (ltb c 64) (member (x .held) c) (lt-ltb c 64 (member-below (x .held) c t)) t ∙ sym t
-        | inr f ↦ ap (λ b. ltb c 64 && b) f ∙ none (ltb c 64) ∙ sym f ]
+        | inl t ↦ and-from (ltb c 64) (member (x .held) c) (lt-ltb c 64 (member-below (x .held) c t)) t ∙ sym t
+        | inr f ↦ ap (λ b. ltb c 64 && b) f ∙ none (ltb c 64) ∙ sym f
+      ]
     where
       none : (b : Bool) → (b && false) ≡ false
       none true = refl
@@ -70,10 +70,12 @@ module _ (x : Collection) where
   counted-is c =
       weigh-cells weighs (member (x .held)) c
       ∙ elim (cases-lt c 64) [
-          inl h ↦ cond-true (ltb c 64) (weighs c) 0 (lt-ltb c 64 h)
+        | inl h ↦ cond-true (ltb c 64) (weighs c) 0 (lt-ltb c 64 h)
         | inr h ↦ cond-false (ltb c 64) (weighs c) 0 (le-ltb c 64 h) ∙ elim (cases-bool (member (x .counted) c)) [
-            inl t ↦ absurd (omega (arith, member-below (x .counted) c t))
-          | inr f ↦ sym (cond-false (member (x .counted) c) 1 0 f) ] ]
+          | inl t ↦ absurd (omega (arith, member-below (x .counted) c t))
+          | inr f ↦ sym (cond-false (member (x .counted) c) 1 0 f)
+        ]
+      ]
 
   pub counted-one : (c : ℕ) → member (x .counted) c ≡ true → weigh m c ≡ 1
   counted-one c t = counted-is c ∙ cond-true (member (x .counted) c) 1 0 t
@@ -101,8 +103,9 @@ module _ (x : Collection) where
     weightless : (c : ℕ) → held m c ≡ true → weigh m c ≡ 0
     weightless c t =
         counted-none c (elim (and-cases (holds c) (counted c) (never c)) [
-          inl f ↦ absurd (both-ways (holds c) f (sym (held-is c) ∙ t))
-        | inr f ↦ f ])
+          | inl f ↦ absurd (both-ways (holds c) f (sym (held-is c) ∙ t))
+          | inr f ↦ f
+        ])
 
     pub heaviest-none : Heaviest m 0
     heaviest-none = record { none = λ _. refl; some = λ c t. (c, t, weightless c t); every = λ c t. omega (arith, weightless c t) }
@@ -122,9 +125,10 @@ module _ (x : Collection) where
   pub lightest-counted : ((c : ℕ) → (holds c && not (counted c)) ≡ false) → (c : ℕ) → holds c ≡ true → Lightest m 1
   lightest-counted never c t =
       let one : (k : ℕ) → held m k ≡ true → weigh m k ≡ 1 =
-          λ k h. counted-one k (elim (and-cases (holds k) (not (counted k)) (never k)) [
-            inl f ↦ absurd (both-ways (holds k) f (sym (held-is k) ∙ h))
-          | inr f ↦ not-false (counted k) f ]) in
+      λ k h. counted-one k (elim (and-cases (holds k) (not (counted k)) (never k)) [
+        | inl f ↦ absurd (both-ways (holds k) f (sym (held-is k) ∙ h))
+        | inr f ↦ not-false (counted k) f
+      ]) in
       record {
         none = λ empty. absurd (both-ways (held m c) (empty c) (held-is c ∙ t));
         some = λ k h. (k, h, one k h);
@@ -147,8 +151,9 @@ module _ (x : Collection) where
       pub alone : ((k : ℕ) → member s k ≡ false) → (k : ℕ) → held m k ≡ true → k ≡ c
       alone empty k t =
           elim (and-cases (holds k) (not (eqb k c)) (sym (agree k) ∙ empty k)) [
-            inl f ↦ absurd (both-ways (holds k) f (sym (held-is k) ∙ t))
-          | inr f ↦ eqb-true k c (not-false (eqb k c) f) ]
+            | inl f ↦ absurd (both-ways (holds k) f (sym (held-is k) ∙ t))
+            | inr f ↦ eqb-true k c (not-false (eqb k c) f)
+          ]
 
       pub other : (k : ℕ) → member s k ≡ true → (held m k ≡ true) × (k ≡ c → ⊥)
       other k t =

@@ -47,10 +47,12 @@ module _ (off on : Bool) where
   which c t =
       let h : either off on c ≡ true = held-code duty-weight (either off on) c t .1 in
       elim (cases-eq c 0) [
-        inl z ↦ inl (z, sym (cond-true (eqb c 0) off _ (eq-eqb c 0 z)) ∙ h)
-      | inr nz ↦ elim (cases-eq c 1) [
-          inl o ↦ inr (o, grind (arith, tells))
-        | inr no-one ↦ absurd (both-ways (either off on c) (grind (arith, tells)) h) ] ]
+        | inl z ↦ inl (z, sym (cond-true (eqb c 0) off _ (eq-eqb c 0 z)) ∙ h)
+        | inr nz ↦ elim (cases-eq c 1) [
+          | inl o ↦ inr (o, grind (arith, tells))
+          | inr no-one ↦ absurd (both-ways (either off on c) (grind (arith, tells)) h)
+        ]
+      ]
 
   -- a held code is known
   pub held-two : (c : ℕ) → held m c ≡ true → two c ≡ true
@@ -145,9 +147,12 @@ module _ (d : Duty) where
 pub either-is : (holds : ℕ → Bool) (off on : Bool) → off ≡ holds 0 → on ≡ holds 1 → ((c : ℕ) → holds c ≡ true → two c ≡ true) → (c : ℕ) → either off on c ≡ holds c
 either-is holds off on e o known c =
     elim (cases-eq c 0) [
-      inl z ↦ rw z e
-    | inr nz ↦ elim (cases-eq c 1) [
-        inl one ↦ rw one o
-      | inr nor ↦ elim (cases-bool (holds c)) [
-          inl t ↦ absurd (omega (arith, ltb-true c 2 (known c t)))
-        | inr f ↦ grind (arith, tells) ] ] ]
+      | inl z ↦ rw z e
+      | inr nz ↦ elim (cases-eq c 1) [
+        | inl one ↦ rw one o
+        | inr nor ↦ elim (cases-bool (holds c)) [
+          | inl t ↦ absurd (omega (arith, ltb-true c 2 (known c t)))
+          | inr f ↦ grind (arith, tells)
+        ]
+      ]
+    ]

@@ -23,22 +23,20 @@ module _ {X : Type 0} (known : ℕ → Bool) (ns : List ℕ) (x : X) where
   pub taken-all : (y : X) → Ok y ≡ answered (topmost (listing-rows known ns)) x → (all-known known ns ≡ true) × (y ≡ x)
   taken-all y e =
       elim (cases-bool (all-known known ns)) [
-        inl t ↦ let o : Ok y ≡ Ok x = e ∙ all-taken t in (t, cc)
-      | inr f ↦ let o : _≡_ {A = Result X Row} (Ok y) (Err (row 9)) = e ∙ one-refused f in let z : _≡_ {A = ℕ} 0 1 = cc in absurd (omega arith) ]
+        | inl t ↦ let o : Ok y ≡ Ok x = e ∙ all-taken t in (t, cc)
+        | inr f ↦ let o : _≡_ {A = Result X Row} (Ok y) (Err (row 9)) = e ∙ one-refused f in let z : _≡_ {A = ℕ} 0 1 = cc in absurd (omega arith)
+      ]
 
   pub refused-one : (r : Row) → Err r ≡ answered (topmost (listing-rows known ns)) x → (all-known known ns ≡ false) × (r ≡ row 9)
   refused-one r e =
       elim (cases-bool (all-known known ns)) [
-        inl t ↦ let o : _≡_ {A = Result X Row} (Err r) (Ok x) = e ∙ all-taken t in let z : _≡_ {A = ℕ} 0 1 = cc in absurd (omega arith)
-      | inr f ↦ let o : _≡_ {A = Result X Row} (Err r) (Err (row 9)) = e ∙ one-refused f in (f, cc) ]
+        | inl t ↦ let o : _≡_ {A = Result X Row} (Err r) (Ok x) = e ∙ all-taken t in let z : _≡_ {A = ℕ} 0 1 = cc in absurd (omega arith)
+        | inr f ↦ let o : _≡_ {A = Result X Row} (Err r) (Err (row 9)) = e ∙ one-refused f in (f, cc)
+      ]
 
-pub all-known-append : (known : ℕ → Bool) (ns ks : List ℕ) → all-known known (ns ++ ks) ≡ (all-known known ns && all-known known ks)
-all-known-append known [] ks = refl
-all-known-append known (n ∷ ns) ks = ap (λ b. known n && b) (all-known-append known ns ks) ∙ sym (grouped (known n) _ _)
-  where
-    grouped : (a b c : Bool) → ((a && b) && c) ≡ (a && (b && c))
-    grouped true b c = refl
-    grouped false b c = refl
+-- two listings, neither refused
+pub both-taken : {X : Type 0} (known : ℕ → Bool) (ns ks : List ℕ) (x : X) → all-known known ns ≡ true → all-known known ks ≡ true → answered (topmost (listing-rows known ns ++ listing-rows known ks)) x ≡ Ok x
+both-taken known ns ks x n k = rw (n, k) refl
 
 -- of a listing with known codes alone, each code is known
 pub listed-known : (known : ℕ → Bool) (ns : List ℕ) (c : ℕ) → all-known known ns ≡ true → lists ns c ≡ true → known c ≡ true
@@ -46,5 +44,6 @@ listed-known known [] c all t = absurd (both-ways false refl t)
 listed-known known (n ∷ ns) c all t =
     let both = and-parts (known n) (all-known known ns) all in
     elim (or-cases (eqb c n) (lists ns c) t) [
-      inl e ↦ ap known (eqb-true c n e) ∙ both .0
-    | inr l ↦ listed-known known ns c (both .1) l ]
+      | inl e ↦ ap known (eqb-true c n e) ∙ both .0
+      | inr l ↦ listed-known known ns c (both .1) l
+    ]

@@ -86,10 +86,10 @@ module _ (low high : ℕ) where
         let a = run-in low (omega arith) (omega arith) (omega arith) in
         let b = run-in high (omega arith) (omega arith) (omega arith) in
         let found = whole low high c
-            (struck-stays m c inside low a (λ e. omega arith))
-            (struck-stays m c inside high b (λ e. omega arith))
-            (omega (arith, weigh-marked m c false low, in-run low a .3))
-            (omega (arith, weigh-marked m c false high, in-run high b .3)) in
+        (struck-stays m c inside low a (λ e. omega arith))
+        (struck-stays m c inside high b (λ e. omega arith))
+        (omega (arith, weigh-marked m c false low, in-run low a .3))
+        (omega (arith, weigh-marked m c false high, in-run high b .3)) in
         let was = struck-was m c inside (found .0) (found .1) in
         was .1 (omega (arith, found .2, weigh-marked m c false (found .0), in-run (found .0) (was .0) .3))
 
@@ -111,13 +111,16 @@ module _ (low high : ℕ) where
         let weighs : weigh m c ≡ c = weigh-cells (λ k. k) (spans low high) c ∙ cond-true (ltb c 64) c 0 (lt-ltb c 64 below) in
         let here = granted-stays m c inside c (inr refl) in
         let gone : (w : ℕ) → (w < low) ⊎ (high < w) → (w ≡ c → ⊥) → ((k : ℕ) × (held (granted m c) k ≡ true) × (weigh (granted m c) k ≡ w)) → ⊥ =
-            λ w out other found. elim (granted-was m c inside (found .0) (found .1)) [
-              inl h ↦ elim out [
-                inl s ↦ omega (arith, found .2, weigh-marked m c true (found .0), in-run (found .0) h .0, in-run (found .0) h .3)
-              | inr s ↦ omega (arith, found .2, weigh-marked m c true (found .0), in-run (found .0) h .1, in-run (found .0) h .3) ]
-            | inr e ↦ other (sym (found .2) ∙ weigh-marked m c true (found .0) ∙ ap (weigh m) e ∙ weighs) ] in
+        λ w out other found. elim (granted-was m c inside (found .0) (found .1)) [
+          | inl h ↦ elim out [
+            | inl s ↦ omega (arith, found .2, weigh-marked m c true (found .0), in-run (found .0) h .0, in-run (found .0) h .3)
+            | inr s ↦ omega (arith, found .2, weigh-marked m c true (found .0), in-run (found .0) h .1, in-run (found .0) h .3)
+          ]
+          | inr e ↦ other (sym (found .2) ∙ weigh-marked m c true (found .0) ∙ ap (weigh m) e ∙ weighs)
+        ] in
         elim side [
-          inl s ↦ gone (c + 1) (inl s) (λ e. omega arith) (whole c low (c + 1) here (granted-stays m c inside low (inl a))
-            (omega (arith, weigh-marked m c true c, weighs)) (omega (arith, weigh-marked m c true low, in-run low a .3)))
-        | inr s ↦ gone (high + 1) (inr (omega arith)) (λ e. omega arith) (whole high c (high + 1) (granted-stays m c inside high (inl b)) here
-            (omega (arith, weigh-marked m c true high, in-run high b .3)) (omega (arith, weigh-marked m c true c, weighs))) ]
+          | inl s ↦ gone (c + 1) (inl s) (λ e. omega arith) (whole c low (c + 1) here (granted-stays m c inside low (inl a))
+              (omega (arith, weigh-marked m c true c, weighs)) (omega (arith, weigh-marked m c true low, in-run low a .3)))
+          | inr s ↦ gone (high + 1) (inr (omega arith)) (λ e. omega arith) (whole high c (high + 1) (granted-stays m c inside high (inl b)) here
+              (omega (arith, weigh-marked m c true high, in-run high b .3)) (omega (arith, weigh-marked m c true c, weighs)))
+        ]

@@ -69,10 +69,7 @@ impl Boxes {
             return Err(Refusal::OnlyCode);
         }
         if code == low {
-            return Ok(Boxes {
-                low: low + 1,
-                high,
-            });
+            return Ok(Boxes { low: low + 1, high });
         }
         if code == high {
             return Ok(Boxes {
@@ -145,8 +142,8 @@ pub impl Entry for Boxes as BoxesEntry {
 
     fn strike(&mut self, code: u32) -> Result<(), Refusal> {
         match self.struck(code) {
-            Ok(entry) => {
-                *self = entry;
+            Ok(rest) => {
+                *self = rest;
                 Ok(())
             }
             Err(refusal) => Err(refusal),
@@ -155,8 +152,8 @@ pub impl Entry for Boxes as BoxesEntry {
 
     fn grant(&mut self, code: u32) -> Result<(), Refusal> {
         match self.granted(code) {
-            Ok(entry) => {
-                *self = entry;
+            Ok(wider) => {
+                *self = wider;
                 Ok(())
             }
             Err(refusal) => Err(refusal),

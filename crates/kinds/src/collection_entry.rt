@@ -1,7 +1,8 @@
 ghost use mathlib.Core.Path.{_≡_};
-ghost use mathlib.Core.List.{_++_};
+ghost use mathlib.Core.List.{List, _++_};
+ghost use Prim.Native.Nat.{ℕ};
 ghost use Rattle.entry.specs.Refusals.{topmost, told, answered};
-ghost use Rattle.kinds.specs.Listings.{lists, listing-rows};
+ghost use Rattle.kinds.specs.Listings.{lists, listing-rows, Listed};
 ghost use Rattle.kinds.specs.Codes.{small};
 ghost use Rattle.kinds.specs.Collections.{collected, counting};
 ghost use Rattle.kinds.specs.Told.{CellOf, WeightsOf, Struck, Granted};
@@ -9,16 +10,29 @@ use crate::cell::Cell;
 use crate::cell::Weights;
 use crate::collection::Collection;
 use crate::listing::listed;
+use codes::set::CodeSet;
 use entry::refusal::Refusal;
 use entry::traits::Entry;
 
 impl Collection {
     // The listed codes, of which those in `counts` count; refused where either list has a number that is no code.
     pub fn new(codes: &[u32], counts: &[u32]) -> Result<Collection, Refusal>
-        ensures { λ r. ⌜ told collected r ≡ answered (topmost (listing-rows small (now (codes .entry) ++ now (counts .entry)))) (counting (lists (now (counts .entry))) (lists (now (codes .entry)))) ⌝ }
+        ensures { λ r. ⌜ told collected r ≡ answered (topmost (listing-rows small (now (codes .entry)) ++ listing-rows small (now (counts .entry)))) (counting (lists (now (counts .entry))) (lists (now (codes .entry)))) ⌝ }
     {
-        let held = listed::<CollectionEntry>(codes)?;
-        let counted = listed::<CollectionEntry>(counts)?;
+        Collection::from_listings(
+            listed::<CollectionEntry>(codes),
+            listed::<CollectionEntry>(counts),
+        )
+    }
+
+    fn from_listings(
+        codes: Result<CodeSet, Refusal>,
+        counts: Result<CodeSet, Refusal>,
+    ) -> Result<Collection, Refusal>
+        ensures { λ r. ⌜ ((ns ks : List ℕ) → Listed small ns codes → Listed small ks counts → told collected r ≡ answered (topmost (listing-rows small ns ++ listing-rows small ks)) (counting (lists ks) (lists ns))) ⌝ }
+    {
+        let held = codes?;
+        let counted = counts?;
         Ok(Collection { held, counted })
     }
 
@@ -116,8 +130,8 @@ pub impl Entry for Collection as CollectionEntry {
 
     fn strike(&mut self, code: u32) -> Result<(), Refusal> {
         match self.struck(code) {
-            Ok(entry) => {
-                *self = entry;
+            Ok(rest) => {
+                *self = rest;
                 Ok(())
             }
             Err(refusal) => Err(refusal),
@@ -126,8 +140,8 @@ pub impl Entry for Collection as CollectionEntry {
 
     fn grant(&mut self, code: u32) -> Result<(), Refusal> {
         match self.granted(code) {
-            Ok(entry) => {
-                *self = entry;
+            Ok(wider) => {
+                *self = wider;
                 Ok(())
             }
             Err(refusal) => Err(refusal),

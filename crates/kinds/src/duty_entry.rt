@@ -1,13 +1,16 @@
 ghost use mathlib.Core.Path.{_≡_};
+ghost use mathlib.Core.List.{List};
+ghost use Prim.Native.Nat.{ℕ};
 ghost use Rattle.entry.specs.Refusals.{topmost, told, answered};
 ghost use Rattle.entry.specs.Cells.{cells};
-ghost use Rattle.kinds.specs.Listings.{lists, listing-rows};
+ghost use Rattle.kinds.specs.Listings.{lists, listing-rows, Listed};
 ghost use Rattle.kinds.specs.Duties.{two, duties, duty-weight};
 ghost use Rattle.kinds.specs.Told.{CellOf, WeightsOf, Struck, Granted};
 use crate::cell::Cell;
 use crate::cell::Weights;
 use crate::duty::Duty;
 use crate::listing::listed;
+use codes::set::CodeSet;
 use entry::refusal::Refusal;
 use entry::traits::Entry;
 
@@ -16,7 +19,13 @@ impl Duty {
     pub fn new(codes: &[u32]) -> Result<Duty, Refusal>
         ensures { λ r. ⌜ told duties r ≡ answered (topmost (listing-rows two (now (codes .entry)))) (cells duty-weight (lists (now (codes .entry)))) ⌝ }
     {
-        let held = listed::<DutyEntry>(codes)?;
+        Duty::from_listing(listed::<DutyEntry>(codes))
+    }
+
+    fn from_listing(listing: Result<CodeSet, Refusal>) -> Result<Duty, Refusal>
+        ensures { λ r. ⌜ ((ns : List ℕ) → Listed two ns listing → told duties r ≡ answered (topmost (listing-rows two ns)) (cells duty-weight (lists ns))) ⌝ }
+    {
+        let held = listing?;
         Ok(Duty {
             off: held.contains(0),
             on: held.contains(1),
@@ -131,8 +140,8 @@ pub impl Entry for Duty as DutyEntry {
 
     fn strike(&mut self, code: u32) -> Result<(), Refusal> {
         match self.struck(code) {
-            Ok(entry) => {
-                *self = entry;
+            Ok(rest) => {
+                *self = rest;
                 Ok(())
             }
             Err(refusal) => Err(refusal),
@@ -141,8 +150,8 @@ pub impl Entry for Duty as DutyEntry {
 
     fn grant(&mut self, code: u32) -> Result<(), Refusal> {
         match self.granted(code) {
-            Ok(entry) => {
-                *self = entry;
+            Ok(wider) => {
+                *self = wider;
                 Ok(())
             }
             Err(refusal) => Err(refusal),

@@ -7,3 +7,5 @@ pub mod collection_entry;
 pub mod duty;
 pub mod duty_entry;
 mod listing;
+#[cfg(test)]
+mod tests;

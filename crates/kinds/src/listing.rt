@@ -1,14 +1,11 @@
-ghost use mathlib.Core.Path.{_≡_};
-ghost use Rattle.codes.specs.Members.{member};
-ghost use Rattle.entry.specs.Refusals.{topmost, told, answered};
-ghost use Rattle.kinds.specs.Listings.{lists, listing-rows};
+ghost use Rattle.kinds.specs.Listings.{Listed};
+use codes::set::CodeSet;
 use entry::refusal::Refusal;
 use entry::traits::Entry;
-use codes::set::CodeSet;
 
 // The set of the listed codes, in any order and with repeats; refused where the kind does not know one of them.
 pub(crate) fn listed<E: Entry>(codes: &[u32]) -> Result<CodeSet, Refusal>
-    ensures { λ r. ⌜ told member r ≡ answered (topmost (listing-rows known (now (codes .entry)))) (lists (now (codes .entry))) ⌝ }
+    ensures { λ r. ⌜ Listed known (now (codes .entry)) r ⌝ }
 {
     let mut set = CodeSet::empty();
     for code in codes {

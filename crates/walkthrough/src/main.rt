@@ -44,7 +44,10 @@ fn print_week(rt: &LibcRuntime, week: &Week) -> io::Result<()> {
     }
     let (closed, closed_most) = week::span(&week.papers);
     let (few, many) = week::span(&week.boxes);
-    println!(rt, "  Days on the donor's papers: {closed} to {closed_most}. Boxes in all: {few} to {many}.")
+    println!(
+        rt,
+        "  Days on the donor's papers: {closed} to {closed_most}. Boxes in all: {few} to {many}."
+    )
 }
 
 fn reason(refusal: Refusal) -> &'static str {
@@ -73,7 +76,10 @@ fn close_drafts(rt: &LibcRuntime, papers: &mut [Collection; 5]) -> io::Result<()
     for (i, name) in NAMES.iter().enumerate() {
         tell(rt, name, "no drafts", papers[i].strike(DRAFTS))?;
     }
-    println!(rt, "\nWith the maps open on Wednesday, the drafts can go there too:")?;
+    println!(
+        rt,
+        "\nWith the maps open on Wednesday, the drafts can go there too:"
+    )?;
     tell(rt, NAMES[2], "maps", papers[2].grant(MAPS))?;
     tell(rt, NAMES[2], "no drafts", papers[2].strike(DRAFTS))
 }

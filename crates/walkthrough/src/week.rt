@@ -10,7 +10,9 @@ use std::alloc::AllocError;
 use std::alloc::Global;
 
 pub const LETTERS: u32 = 3;
+
 pub const DRAFTS: u32 = 7;
+
 pub const MAPS: u32 = 12;
 
 pub const NAMES: [&str; 5] = ["Monday", "Tuesday", "Wednesday", "Thursday", "Friday"];

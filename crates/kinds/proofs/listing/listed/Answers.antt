@@ -35,15 +35,14 @@ loop-code-again g c =
     let n = getD ns i 0 in
     let is-known : known n ≡ true = sym (c .if-not-known .ensures tt) in
     let all : all-known known (drop i ns) ≡ (known n && all-known known (drop (i + 1) ns)) = at-drop-more (all-known known) ns i 0 (c .loop-code-test .taken) in
-    let listed : (k : ℕ) → lists (drop i ns) k ≡ (eqb k n || lists (drop (i + 1) ns) k) = λ k. at-drop-more (λ xs. lists xs k) ns i 0 (c .loop-code-test .taken) in
-    (
+    let listed : (k : ℕ) → lists (drop i ns) k ≡ (eqb k n || lists (drop (i + 1) ns) k) = λ k. at-drop-more (λ xs. lists xs k) ns i 0 (c .loop-code-test .taken) in (
       sym (all ∙ ap (λ b. b && all-known known (drop (i + 1) ns)) is-known) ∙ c .loop-code .inv .0,
       λ k.
-        ap (λ b. b || lists (drop (i + 1) ns) k) (c .with-set .ensures .each k)
-        ∙ moved (member (c .loop-code .set) k) (ltb k 64) (eqb k n) (lists (drop (i + 1) ns) k)
+          ap (λ b. b || lists (drop (i + 1) ns) k) (c .with-set .ensures .each k)
+          ∙ moved (member (c .loop-code .set) k) (ltb k 64) (eqb k n) (lists (drop (i + 1) ns) k)
           (λ e. lt-ltb k 64 (omega (arith, eqb-true k n e, g .E·Entry·met .codes n is-known)))
-        ∙ ap (λ b. member (c .loop-code .set) k || b) (sym (listed k))
-        ∙ c .loop-code .inv .1 k
+          ∙ ap (λ b. member (c .loop-code .set) k || b) (sym (listed k))
+          ∙ c .loop-code .inv .1 k,
     )
 
 pub returns-then-not-known : need.returns-then-not-known
@@ -54,8 +53,8 @@ returns-then-not-known g c =
     let n = getD ns i 0 in
     let unknown : known n ≡ false = sym (c .if-not-known .ensures tt) in
     let all : all-known known ns ≡ false =
-        sym (c .loop-code .inv .0) ∙ at-drop-more (all-known known) ns i 0 (c .loop-code-test .taken)
-        ∙ ap (λ b. b && all-known known (drop (i + 1) ns)) unknown in
+    sym (c .loop-code .inv .0) ∙ at-drop-more (all-known known) ns i 0 (c .loop-code-test .taken)
+    ∙ ap (λ b. b && all-known known (drop (i + 1) ns)) unknown in
     ap (λ b. answered (cond (not b) (Some (row 9)) None) (lists ns)) (sym all)
 
 pub returns : need.returns
@@ -65,7 +64,7 @@ returns g c =
     let i = c .loop-code .code-index in
     let all : all-known known ns ≡ true = sym (c .loop-code .inv .0) ∙ at-drop-all (all-known known) ns i (c .loop-code-test .left) in
     let same : member (c .loop-code .set) ≡ lists ns =
-        λ j k. (sym (ends-false (member (c .loop-code .set) k))
-        ∙ ap (λ b. member (c .loop-code .set) k || b) (sym (at-drop-all (λ xs. lists xs k) ns i (c .loop-code-test .left)))
-        ∙ c .loop-code .inv .1 k) j in
+    λ j k. (sym (ends-false (member (c .loop-code .set) k))
+    ∙ ap (λ b. member (c .loop-code .set) k || b) (sym (at-drop-all (λ xs. lists xs k) ns i (c .loop-code-test .left)))
+    ∙ c .loop-code .inv .1 k) j in
     ap Ok same ∙ ap (λ b. answered (cond (not b) (Some (row 9)) None) (lists ns)) (sym all)

@@ -60,9 +60,10 @@ returns c =
     let code = c .args .code in
     let below : code < 64 = omega arith in
     let side : (code + 1 < b .low) ⊎ (b .high + 1 < code) =
-        elim (c .else-low-code .came) [
-          else-low-code·by·then-low-code·else-code-high w ↦ inr (omega (arith, w .if-code-high .left))
-        | else-low-code·by·else-low-code w ↦ inl (omega (arith, w .if-low-code .left)) ] in
+    elim (c .else-low-code .came) [
+      | else-low-code·by·then-low-code·else-code-high w ↦ inr (omega (arith, w .if-code-high .left))
+      | else-low-code·by·else-low-code w ↦ inl (omega (arith, w .if-low-code .left))
+    ] in
     grants-gap boxed small code b (sized (b .low) (b .high)) (lt-ltb code 64 below)
     (run-out (b .low) (b .high) code (elim side [ inl s ↦ inl (omega arith) | inr s ↦ inr (omega arith) ]))
     (outer-granted (b .low) (b .high) code below (omega arith) (omega arith) side)

@@ -21,8 +21,9 @@ returns-then-code-low c =
     let b = c .args .self in
     strikes-idle boxed small (c .args .code) b (sized (b .low) (b .high)) (lt-ltb (c .args .code) 64 (omega arith))
     (run-out (b .low) (b .high) (c .args .code) (elim (c .then-code-low .came) [
-      then-code-low·by·then-code-low w ↦ inl (w .if-code-low .taken)
-    | then-code-low·by·else-code-low·then-high-code w ↦ inr (w .if-high-code .taken) ]))
+      | then-code-low·by·then-code-low w ↦ inl (w .if-code-low .taken)
+      | then-code-low·by·else-code-low·then-high-code w ↦ inr (w .if-high-code .taken)
+    ]))
     (no-gap (b .low) (b .high))
 
 pub returns-then-low-high : need.returns-then-low-high

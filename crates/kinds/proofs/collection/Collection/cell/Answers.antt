@@ -9,7 +9,8 @@ returns c =
     let code = c .args .code in
     record {
       weight = elim (c .if-contains .came) [
-          then-contains w ↦ w .result-is ∙ sym (counted-one x code (sym (c .contains .ensures .answer) ∙ w .if-contains .taken))
-        | else-contains w ↦ w .result-is ∙ sym (counted-none x code (sym (c .contains .ensures .answer) ∙ w .if-contains .left)) ];
+        | then-contains w ↦ w .result-is ∙ sym (counted-one x code (sym (c .contains .ensures .answer) ∙ w .if-contains .taken))
+        | else-contains w ↦ w .result-is ∙ sym (counted-none x code (sym (c .contains .ensures .answer) ∙ w .if-contains .left))
+      ];
       held = c .contains-2 .ensures .answer ∙ sym (held-is x code);
     }

@@ -32,9 +32,11 @@ returns c =
     let below : code < 64 = omega arith in
     strikes-taken collected small code x (sized x) (holding x rest) (lt-ltb code 64 below)
     (λ t. elim (some-member rest) [
-        inl f ↦ let o = other x rest code below (c .without-rest .ensures .each) (f .0) (f .1) in (f .0, o .0, o .1)
+      | inl f ↦ let o = other x rest code below (c .without-rest .ensures .each) (f .0) (f .1) in (f .0, o .0, o .1)
       | inr n ↦ elim (c .else-is-empty .came) [
-          else-is-empty·by·then-is-empty·else-contains w ↦ absurd (both-ways (w .contains .result) (w .if-contains .left) (w .contains .ensures .answer ∙ sym (held-is x code) ∙ t))
-        | else-is-empty·by·else-is-empty w ↦ absurd (both-ways (c .is-empty .result) (w .if-is-empty .left) (c .is-empty .ensures .none .1 n)) ] ])
+        | else-is-empty·by·then-is-empty·else-contains w ↦ absurd (both-ways (w .contains .result) (w .if-contains .left) (w .contains .ensures .answer ∙ sym (held-is x code) ∙ t))
+        | else-is-empty·by·else-is-empty w ↦ absurd (both-ways (c .is-empty .result) (w .if-is-empty .left) (c .is-empty .ensures .none .1 n))
+      ]
+    ])
     (no-gap (holding x rest)) (now-struck x rest code below (c .without-rest .ensures .each))
     (λ f. ap (holding x) (c .without-rest .ensures .absent (sym (held-is x code) ∙ f)))
