@@ -96,7 +96,7 @@ fn move_boxes(rt: &LibcRuntime, boxes: &mut [Boxes; 5]) -> io::Result<()> {
 fn open_friday(rt: &LibcRuntime, duty: &mut [Duty; 5]) -> io::Result<()> {
     println!(rt, "\nThe reading room opens on Friday again:")?;
     tell(rt, NAMES[4], "on duty", duty[4].grant(1))?;
-    tell(rt, NAMES[4], "not off duty", duty[4].strike(0))
+    tell(rt, NAMES[4], "no day off", duty[4].strike(0))
 }
 
 fn main(rt: LibcRuntime) -> Result<(), Failure> {
