@@ -8,7 +8,6 @@ use lib.ListN.{set}
 use Rattle.std.specs.Results.{isOk}
 use Rattle.std.specs.Orderings.{Decides}
 use Rattle.std.specs.declared.result.Result.{Result}
-use Rattle.std.specs.declared.result.Result.the-variants.{Ok, Err}
 use Rattle.entry.specs.declared.refusal.Refusal.{Refusal}
 use Rattle.entry.specs.Refusals.{Rows, row, topmost, outcome, answered, unless}
 use Rattle.entry.specs.Cells.{Meaning, held, weigh, NoGap}
@@ -78,12 +77,3 @@ abbrev pub Grants : {X : Type 0} → (X → Meaning) → (ℕ → Bool) → ℕ 
 Grants meaning known c x r y =
     Edited meaning c (grant-rows known (meaning x) c) (granted (meaning x) c)
     (held (meaning x) c ≡ true) x r y
-
--- an edit told as the new entry, or the refusal that leaves the old one
-abbrev pub done : {X : Type 0} → Result X Refusal → Result (Unit {0}) Refusal
-done (Ok y) = Ok tt
-done (Err e) = Err e
-
-abbrev pub left : {X : Type 0} → X → Result X Refusal → X
-left x (Ok y) = y
-left x (Err e) = x

@@ -3,7 +3,7 @@ ghost use mathlib.Core.Bool.{Bool, true, false};
 ghost use Prim.Native.Nat.{ℕ, _<_, _≤_};
 ghost use lib.ListN.{length};
 ghost use Rattle.entry.specs.Cells.{Meaning, held, weigh, NoGap};
-ghost use Rattle.entry.specs.Weights.{lightest as lightestOf, heaviest as heaviestOf, Lightest, Heaviest};
+ghost use Rattle.entry.specs.Weights.{lightest, heaviest, Lightest, Heaviest};
 ghost use Rattle.entry.specs.Edits.{Strikes, Grants};
 use crate::refusal::Refusal;
 
@@ -22,18 +22,21 @@ pub trait Entry: Copy {
     // For each code its weight and whether it is held.
     ghost meaning: { Self → Meaning };
 
+    // Top lies from 1 to 63, a known code is below 64, and a meaning has 64 cells.
     law range: { (1 ≤ top) × (top ≤ 63) };
 
     law codes: { (c : ℕ) → known c ≡ true → c < 64 };
 
     law cells: { (x : Self) → length (meaning x) ≡ 64 };
 
+    // Held codes are known; an unknown code weighs nothing, and no code more than top.
     law holdings: { (x : Self) (c : ℕ) → held (meaning x) c ≡ true → known c ≡ true };
 
     law unknowns: { (x : Self) (c : ℕ) → known c ≡ false → weigh (meaning x) c ≡ 0 };
 
     law weights: { (x : Self) (c : ℕ) → weigh (meaning x) c ≤ top };
 
+    // The no-gap law: settling turns spans of weights into held codes by it.
     law gapless: { (x : Self) → NoGap (meaning x) };
 
     fn top_weight() -> u32
@@ -50,12 +53,12 @@ pub trait Entry: Copy {
 
     // The smallest weight of a held code, 0 where none is held.
     fn lightest(&self) -> u32
-        ensures equals { λ r. ⌜ r ≡ lightestOf (meaning (now (self .entry))) ⌝ }
+        ensures equals { λ r. ⌜ r ≡ lightest (meaning (now (self .entry))) ⌝ }
         ensures means { λ r. ⌜ Lightest (meaning (now (self .entry))) r ⌝ };
 
     // The largest weight of a held code, 0 where none is held.
     fn heaviest(&self) -> u32
-        ensures equals { λ r. ⌜ r ≡ heaviestOf (meaning (now (self .entry))) ⌝ }
+        ensures equals { λ r. ⌜ r ≡ heaviest (meaning (now (self .entry))) ⌝ }
         ensures means { λ r. ⌜ Heaviest (meaning (now (self .entry))) r ⌝ };
 
     // Takes one code out, and changes nothing else. A refusal leaves the very same entry.

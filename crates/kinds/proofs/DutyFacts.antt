@@ -15,7 +15,7 @@ use Rattle.entry.proofs.Verdicts.{strikes-unknown, strikes-only, strikes-taken,
 use Rattle.std.specs.declared.result.Result.the-variants.{Ok, Err}
 use Rattle.entry.specs.declared.refusal.Refusal.the-variants.{UnknownCode, OnlyCode}
 use Rattle.kinds.specs.declared.duty.Duty.{Duty}
-use Rattle.kinds.specs.Duties.{two, duties, duty-weight, either}
+use Rattle.kinds.specs.Duties.{duty-code, duties, duty-weight, either}
 
 module _ (off on : Bool) where
   abbrev m : Meaning
@@ -55,8 +55,8 @@ module _ (off on : Bool) where
       ]
 
   -- a held code is known
-  pub held-two : (c : ℕ) → held m c ≡ true → two c ≡ true
-  held-two c t = let h = held-code duty-weight (either off on) c t .1 in grind (arith, tells)
+  pub held-duty-code : (c : ℕ) → held m c ≡ true → duty-code c ≡ true
+  held-duty-code c t = let h = held-code duty-weight (either off on) c t .1 in grind (arith, tells)
 
   pub off-struck : cells duty-weight (either false on) ≡ struck m 0
   off-struck = cells-struck duty-weight (either off on) (either false on) 0 (omega arith) (λ k h. grind (arith, tells))
@@ -109,42 +109,42 @@ module _ (d : Duty) where
   on-is : held (duties d) 1 ≡ d .on
   on-is = at-on (d .off) (d .on)
 
-  pub only-off-struck : d .off ≡ true → d .on ≡ false → Strikes duties two 0 d (Err OnlyCode) d
+  pub only-off-struck : d .off ≡ true → d .on ≡ false → Strikes duties duty-code 0 d (Err OnlyCode) d
   only-off-struck t f =
-      strikes-only duties two 0 d fits refl (off-is ∙ t)
+      strikes-only duties duty-code 0 d fits refl (off-is ∙ t)
       (λ k h. elim (which (d .off) (d .on) k h) [ inl z ↦ z .0 | inr o ↦ absurd (both-ways (d .on) f (o .1)) ])
 
-  pub only-on-struck : d .on ≡ true → d .off ≡ false → Strikes duties two 1 d (Err OnlyCode) d
+  pub only-on-struck : d .on ≡ true → d .off ≡ false → Strikes duties duty-code 1 d (Err OnlyCode) d
   only-on-struck t f =
-      strikes-only duties two 1 d fits refl (on-is ∙ t)
+      strikes-only duties duty-code 1 d fits refl (on-is ∙ t)
       (λ k h. elim (which (d .off) (d .on) k h) [ inl z ↦ absurd (both-ways (d .off) f (z .1)) | inr o ↦ o .0 ])
 
-  pub strikes-off : (d .off ≡ true → d .on ≡ true) → Strikes duties two 0 d (Ok tt) (record { off = false; on = d .on })
+  pub strikes-off : (d .off ≡ true → d .on ≡ true) → Strikes duties duty-code 0 d (Ok tt) (record { off = false; on = d .on })
   strikes-off both =
-      strikes-taken duties two 0 d fits _ refl
+      strikes-taken duties duty-code 0 d fits _ refl
       (λ t. (1, on-is ∙ both (sym off-is ∙ t), λ e. omega arith))
       (no-gap false (d .on)) (off-struck (d .off) (d .on))
       (λ f i. record { off = (sym f ∙ off-is) i; on = d .on })
 
-  pub strikes-on : (d .on ≡ true → d .off ≡ true) → Strikes duties two 1 d (Ok tt) (record { off = d .off; on = false })
+  pub strikes-on : (d .on ≡ true → d .off ≡ true) → Strikes duties duty-code 1 d (Ok tt) (record { off = d .off; on = false })
   strikes-on both =
-      strikes-taken duties two 1 d fits _ refl
+      strikes-taken duties duty-code 1 d fits _ refl
       (λ t. (0, off-is ∙ both (sym on-is ∙ t), λ e. omega arith))
       (no-gap (d .off) false) (on-struck (d .off) (d .on))
       (λ f i. record { off = d .off; on = (sym f ∙ on-is) i })
 
-  pub grants-off : Grants duties two 0 d (Ok tt) (record { off = true; on = d .on })
+  pub grants-off : Grants duties duty-code 0 d (Ok tt) (record { off = true; on = d .on })
   grants-off =
-      grants-taken duties two 0 d fits _ refl (no-gap true (d .on)) (off-granted (d .off) (d .on))
+      grants-taken duties duty-code 0 d fits _ refl (no-gap true (d .on)) (off-granted (d .off) (d .on))
       (λ t i. record { off = (sym t ∙ off-is) i; on = d .on })
 
-  pub grants-on : Grants duties two 1 d (Ok tt) (record { off = d .off; on = true })
+  pub grants-on : Grants duties duty-code 1 d (Ok tt) (record { off = d .off; on = true })
   grants-on =
-      grants-taken duties two 1 d fits _ refl (no-gap (d .off) true) (on-granted (d .off) (d .on))
+      grants-taken duties duty-code 1 d fits _ refl (no-gap (d .off) true) (on-granted (d .off) (d .on))
       (λ t i. record { off = d .off; on = (sym t ∙ on-is) i })
 
 -- what holds known codes alone is told by codes 0 and 1
-pub either-is : (holds : ℕ → Bool) (off on : Bool) → off ≡ holds 0 → on ≡ holds 1 → ((c : ℕ) → holds c ≡ true → two c ≡ true) → (c : ℕ) → either off on c ≡ holds c
+pub either-is : (holds : ℕ → Bool) (off on : Bool) → off ≡ holds 0 → on ≡ holds 1 → ((c : ℕ) → holds c ≡ true → duty-code c ≡ true) → (c : ℕ) → either off on c ≡ holds c
 either-is holds off on e o known c =
     elim (cases-eq c 0) [
       | inl z ↦ rw z e

@@ -34,7 +34,7 @@ module _ {X : Type 0} (known : ℕ → Bool) (ns : List ℕ) (x : X) where
         | inr f ↦ let o : _≡_ {A = Result X Row} (Err r) (Err (row 9)) = e ∙ one-refused f in (f, cc)
       ]
 
--- two listings, neither refused
+-- duty-code listings, neither refused
 pub both-taken : {X : Type 0} (known : ℕ → Bool) (ns ks : List ℕ) (x : X) → all-known known ns ≡ true → all-known known ks ≡ true → answered (topmost (listing-rows known ns ++ listing-rows known ks)) x ≡ Ok x
 both-taken known ns ks x n k = rw (n, k) refl
 

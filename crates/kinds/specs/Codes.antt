@@ -1,8 +1,7 @@
--- The numbers that are codes.
+-- The codes of a kind that knows all 64.
 use mathlib.Core.Bool.{Bool}
 use Prim.Native.Nat.{ℕ}
 use lib.Dec.{ltb}
 
--- a code of a kind that knows all 64
-abbrev pub small : ℕ → Bool
-small c = ltb c 64
+abbrev pub any-code : ℕ → Bool
+any-code c = ltb c 64

@@ -5,8 +5,8 @@ use lib.Dec.{ltb, eqb}
 use Rattle.entry.specs.Cells.{Meaning, cells}
 use Rattle.kinds.specs.declared.duty.Duty.{Duty}
 
-abbrev pub two : ℕ → Bool
-two c = ltb c 2
+abbrev pub duty-code : ℕ → Bool
+duty-code c = ltb c 2
 
 abbrev pub duty-weight : ℕ → ℕ
 duty-weight c = cond (eqb c 1) 1 0

@@ -1,11 +1,12 @@
 ghost use mathlib.Core.Path.{_≡_};
 ghost use Rattle.entry.specs.Refusals.{topmost, told, answered};
-ghost use Rattle.kinds.specs.Codes.{small};
+ghost use Rattle.kinds.specs.Codes.{any-code};
 ghost use Rattle.kinds.specs.Spans.{boxed, spanned, span-rows};
 ghost use Rattle.kinds.specs.Told.{CellOf, WeightsOf, Struck, Granted};
 use crate::boxes::Boxes;
 use crate::cell::Cell;
 use crate::cell::Weights;
+use crate::edits::store;
 use entry::refusal::Refusal;
 use entry::traits::Entry;
 
@@ -23,6 +24,7 @@ impl Boxes {
         })
     }
 
+    // The weight of a code, and whether it is held.
     fn cell(self, code: u32) -> Cell
         ensures { λ r. ⌜ CellOf (boxed self) code r ⌝ }
     {
@@ -38,6 +40,7 @@ impl Boxes {
         }
     }
 
+    // The lightest and the heaviest weight that is held.
     fn weights(self) -> Weights
         ensures { λ r. ⌜ WeightsOf (boxed self) r ⌝ }
     {
@@ -54,8 +57,9 @@ impl Boxes {
         }
     }
 
+    // The entry without the code, or why that is refused.
     fn struck(self, code: u32) -> Result<Boxes, Refusal>
-        ensures { λ r. ⌜ Struck boxed small code self r ⌝ }
+        ensures { λ r. ⌜ Struck boxed any-code code self r ⌝ }
     {
         if code > 63 {
             return Err(Refusal::UnknownCode);
@@ -80,8 +84,9 @@ impl Boxes {
         Err(Refusal::WeightGap)
     }
 
+    // The entry with the code, or why that is refused.
     fn granted(self, code: u32) -> Result<Boxes, Refusal>
-        ensures { λ r. ⌜ Granted boxed small code self r ⌝ }
+        ensures { λ r. ⌜ Granted boxed any-code code self r ⌝ }
     {
         if code > 63 {
             return Err(Refusal::UnknownCode);
@@ -112,7 +117,7 @@ pub impl Entry for Boxes as BoxesEntry {
 
     ghost top = { 63 };
 
-    ghost known = { small };
+    ghost known = { any-code };
 
     ghost meaning = { boxed };
 
@@ -141,22 +146,12 @@ pub impl Entry for Boxes as BoxesEntry {
     }
 
     fn strike(&mut self, code: u32) -> Result<(), Refusal> {
-        match self.struck(code) {
-            Ok(rest) => {
-                *self = rest;
-                Ok(())
-            }
-            Err(refusal) => Err(refusal),
-        }
+        let rest = self.struck(code);
+        store(self, rest)
     }
 
     fn grant(&mut self, code: u32) -> Result<(), Refusal> {
-        match self.granted(code) {
-            Ok(wider) => {
-                *self = wider;
-                Ok(())
-            }
-            Err(refusal) => Err(refusal),
-        }
+        let wider = self.granted(code);
+        store(self, wider)
     }
 }

@@ -3,12 +3,13 @@ ghost use mathlib.Core.List.{List, _++_};
 ghost use Prim.Native.Nat.{ℕ};
 ghost use Rattle.entry.specs.Refusals.{topmost, told, answered};
 ghost use Rattle.kinds.specs.Listings.{lists, listing-rows, Listed};
-ghost use Rattle.kinds.specs.Codes.{small};
+ghost use Rattle.kinds.specs.Codes.{any-code};
 ghost use Rattle.kinds.specs.Collections.{collected, counting};
 ghost use Rattle.kinds.specs.Told.{CellOf, WeightsOf, Struck, Granted};
 use crate::cell::Cell;
 use crate::cell::Weights;
 use crate::collection::Collection;
+use crate::edits::store;
 use crate::listing::listed;
 use codes::set::CodeSet;
 use entry::refusal::Refusal;
@@ -17,7 +18,7 @@ use entry::traits::Entry;
 impl Collection {
     // The listed codes, of which those in `counts` count; refused where either list has a number that is no code.
     pub fn new(codes: &[u32], counts: &[u32]) -> Result<Collection, Refusal>
-        ensures { λ r. ⌜ told collected r ≡ answered (topmost (listing-rows small (now (codes .entry)) ++ listing-rows small (now (counts .entry)))) (counting (lists (now (counts .entry))) (lists (now (codes .entry)))) ⌝ }
+        ensures { λ r. ⌜ told collected r ≡ answered (topmost (listing-rows any-code (now (codes .entry)) ++ listing-rows any-code (now (counts .entry)))) (counting (lists (now (counts .entry))) (lists (now (codes .entry)))) ⌝ }
     {
         Collection::from_listings(
             listed::<CollectionEntry>(codes),
@@ -25,17 +26,19 @@ impl Collection {
         )
     }
 
+    // The entry of two sets of listed codes; a listing that was refused is refused here.
     fn from_listings(
         codes: Result<CodeSet, Refusal>,
         counts: Result<CodeSet, Refusal>,
     ) -> Result<Collection, Refusal>
-        ensures { λ r. ⌜ ((ns ks : List ℕ) → Listed small ns codes → Listed small ks counts → told collected r ≡ answered (topmost (listing-rows small ns ++ listing-rows small ks)) (counting (lists ks) (lists ns))) ⌝ }
+        ensures { λ r. ⌜ ((ns ks : List ℕ) → Listed any-code ns codes → Listed any-code ks counts → told collected r ≡ answered (topmost (listing-rows any-code ns ++ listing-rows any-code ks)) (counting (lists ks) (lists ns))) ⌝ }
     {
         let held = codes?;
         let counted = counts?;
         Ok(Collection { held, counted })
     }
 
+    // The weight of a code, and whether it is held.
     fn cell(self, code: u32) -> Cell
         ensures { λ r. ⌜ CellOf (collected self) code r ⌝ }
     {
@@ -45,6 +48,7 @@ impl Collection {
         }
     }
 
+    // The lightest and the heaviest weight that is held.
     fn weights(self) -> Weights
         ensures { λ r. ⌜ WeightsOf (collected self) r ⌝ }
     {
@@ -66,8 +70,9 @@ impl Collection {
         }
     }
 
+    // The entry without the code, or why that is refused.
     fn struck(self, code: u32) -> Result<Collection, Refusal>
-        ensures { λ r. ⌜ Struck collected small code self r ⌝ }
+        ensures { λ r. ⌜ Struck collected any-code code self r ⌝ }
     {
         if code > 63 {
             return Err(Refusal::UnknownCode);
@@ -82,8 +87,9 @@ impl Collection {
         })
     }
 
+    // The entry with the code, or why that is refused.
     fn granted(self, code: u32) -> Result<Collection, Refusal>
-        ensures { λ r. ⌜ Granted collected small code self r ⌝ }
+        ensures { λ r. ⌜ Granted collected any-code code self r ⌝ }
     {
         if code > 63 {
             return Err(Refusal::UnknownCode);
@@ -100,7 +106,7 @@ pub impl Entry for Collection as CollectionEntry {
 
     ghost top = { 1 };
 
-    ghost known = { small };
+    ghost known = { any-code };
 
     ghost meaning = { collected };
 
@@ -129,22 +135,12 @@ pub impl Entry for Collection as CollectionEntry {
     }
 
     fn strike(&mut self, code: u32) -> Result<(), Refusal> {
-        match self.struck(code) {
-            Ok(rest) => {
-                *self = rest;
-                Ok(())
-            }
-            Err(refusal) => Err(refusal),
-        }
+        let rest = self.struck(code);
+        store(self, rest)
     }
 
     fn grant(&mut self, code: u32) -> Result<(), Refusal> {
-        match self.granted(code) {
-            Ok(wider) => {
-                *self = wider;
-                Ok(())
-            }
-            Err(refusal) => Err(refusal),
-        }
+        let wider = self.granted(code);
+        store(self, wider)
     }
 }

@@ -4,11 +4,12 @@ ghost use Prim.Native.Nat.{ℕ};
 ghost use Rattle.entry.specs.Refusals.{topmost, told, answered};
 ghost use Rattle.entry.specs.Cells.{cells};
 ghost use Rattle.kinds.specs.Listings.{lists, listing-rows, Listed};
-ghost use Rattle.kinds.specs.Duties.{two, duties, duty-weight};
+ghost use Rattle.kinds.specs.Duties.{duty-code, duties, duty-weight};
 ghost use Rattle.kinds.specs.Told.{CellOf, WeightsOf, Struck, Granted};
 use crate::cell::Cell;
 use crate::cell::Weights;
 use crate::duty::Duty;
+use crate::edits::store;
 use crate::listing::listed;
 use codes::set::CodeSet;
 use entry::refusal::Refusal;
@@ -17,13 +18,14 @@ use entry::traits::Entry;
 impl Duty {
     // The listed codes; refused where one is neither 0 nor 1.
     pub fn new(codes: &[u32]) -> Result<Duty, Refusal>
-        ensures { λ r. ⌜ told duties r ≡ answered (topmost (listing-rows two (now (codes .entry)))) (cells duty-weight (lists (now (codes .entry)))) ⌝ }
+        ensures { λ r. ⌜ told duties r ≡ answered (topmost (listing-rows duty-code (now (codes .entry)))) (cells duty-weight (lists (now (codes .entry)))) ⌝ }
     {
         Duty::from_listing(listed::<DutyEntry>(codes))
     }
 
+    // The entry that holds a set of listed codes; a listing that was refused is refused here.
     fn from_listing(listing: Result<CodeSet, Refusal>) -> Result<Duty, Refusal>
-        ensures { λ r. ⌜ ((ns : List ℕ) → Listed two ns listing → told duties r ≡ answered (topmost (listing-rows two ns)) (cells duty-weight (lists ns))) ⌝ }
+        ensures { λ r. ⌜ ((ns : List ℕ) → Listed duty-code ns listing → told duties r ≡ answered (topmost (listing-rows duty-code ns)) (cells duty-weight (lists ns))) ⌝ }
     {
         let held = listing?;
         Ok(Duty {
@@ -32,6 +34,7 @@ impl Duty {
         })
     }
 
+    // The weight of a code, and whether it is held.
     fn cell(self, code: u32) -> Cell
         ensures { λ r. ⌜ CellOf (duties self) code r ⌝ }
     {
@@ -51,6 +54,7 @@ impl Duty {
         }
     }
 
+    // The lightest and the heaviest weight that is held.
     fn weights(self) -> Weights
         ensures { λ r. ⌜ WeightsOf (duties self) r ⌝ }
     {
@@ -70,8 +74,9 @@ impl Duty {
         }
     }
 
+    // The entry without the code, or why that is refused.
     fn struck(self, code: u32) -> Result<Duty, Refusal>
-        ensures { λ r. ⌜ Struck duties two code self r ⌝ }
+        ensures { λ r. ⌜ Struck duties duty-code code self r ⌝ }
     {
         match code {
             0 if self.off && !self.on => Err(Refusal::OnlyCode),
@@ -88,8 +93,9 @@ impl Duty {
         }
     }
 
+    // The entry with the code, or why that is refused.
     fn granted(self, code: u32) -> Result<Duty, Refusal>
-        ensures { λ r. ⌜ Granted duties two code self r ⌝ }
+        ensures { λ r. ⌜ Granted duties duty-code code self r ⌝ }
     {
         match code {
             0 => Ok(Duty {
@@ -110,7 +116,7 @@ pub impl Entry for Duty as DutyEntry {
 
     ghost top = { 1 };
 
-    ghost known = { two };
+    ghost known = { duty-code };
 
     ghost meaning = { duties };
 
@@ -139,22 +145,12 @@ pub impl Entry for Duty as DutyEntry {
     }
 
     fn strike(&mut self, code: u32) -> Result<(), Refusal> {
-        match self.struck(code) {
-            Ok(rest) => {
-                *self = rest;
-                Ok(())
-            }
-            Err(refusal) => Err(refusal),
-        }
+        let rest = self.struck(code);
+        store(self, rest)
     }
 
     fn grant(&mut self, code: u32) -> Result<(), Refusal> {
-        match self.granted(code) {
-            Ok(wider) => {
-                *self = wider;
-                Ok(())
-            }
-            Err(refusal) => Err(refusal),
-        }
+        let wider = self.granted(code);
+        store(self, wider)
     }
 }

@@ -6,6 +6,7 @@ pub mod collection;
 pub mod collection_entry;
 pub mod duty;
 pub mod duty_entry;
+mod edits;
 mod listing;
 #[cfg(test)]
 mod tests;

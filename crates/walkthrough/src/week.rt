@@ -26,7 +26,7 @@ pub struct Week {
 }
 
 impl Week {
-    pub fn new() -> Result<Week, Refusal> {
+    pub(crate) fn new() -> Result<Week, Refusal> {
         // The donor's papers count, the maps do not.
         let counted = [LETTERS, DRAFTS];
         let either = Duty::new(&[0, 1])?;
@@ -54,7 +54,7 @@ impl Week {
 }
 
 // What a plan weighs over its days, at the least and at the most, with no rule.
-pub fn span<E: Entry>(entries: &[E]) -> (u32, u32) {
+pub(crate) fn span<E: Entry>(entries: &[E]) -> (u32, u32) {
     let mut least = 0u32;
     let mut most = 0u32;
     for entry in entries {
@@ -64,7 +64,7 @@ pub fn span<E: Entry>(entries: &[E]) -> (u32, u32) {
     (least, most)
 }
 
-pub fn duty_words(duty: &Duty) -> &'static str {
+pub(crate) fn duty_words(duty: &Duty) -> &'static str {
     match (duty.holds(0), duty.holds(1)) {
         (true, true) => "off or on",
         (true, false) => "off",
@@ -73,7 +73,7 @@ pub fn duty_words(duty: &Duty) -> &'static str {
     }
 }
 
-pub fn paper_words(heap: Global, papers: &Collection) -> Result<String, AllocError> {
+pub(crate) fn paper_words(heap: Global, papers: &Collection) -> Result<String, AllocError> {
     let mut words = String::new(heap);
     for (code, title) in [(LETTERS, "letters"), (DRAFTS, "drafts"), (MAPS, "maps")] {
         if papers.holds(code) {
@@ -86,7 +86,7 @@ pub fn paper_words(heap: Global, papers: &Collection) -> Result<String, AllocErr
     Ok(words)
 }
 
-pub fn box_words(heap: Global, boxes: &Boxes) -> Result<String, AllocError> {
+pub(crate) fn box_words(heap: Global, boxes: &Boxes) -> Result<String, AllocError> {
     let low = boxes.lightest();
     let high = boxes.heaviest();
     if !boxes.holds(low) {

@@ -9,18 +9,18 @@ returns-then-code-gt63 c =
     let b = c .args .self in
     let w = weigh-cells (λ k. k) (spans (b .low) (b .high)) (c .args .code) in
     let h = held-cells (λ k. k) (spans (b .low) (b .high)) (c .args .code) in
-    record { weight = grind (arith, tells); held = grind (arith, tells) }
+    record { weighs = grind (arith, tells); holds = grind (arith, tells) }
 
 pub returns-then-from-code : need.returns-then-from-code
 returns-then-from-code c =
     let b = c .args .self in
     let w = weigh-cells (λ k. k) (spans (b .low) (b .high)) (c .args .code) in
     let h = held-cells (λ k. k) (spans (b .low) (b .high)) (c .args .code) in
-    record { weight = grind (arith, tells); held = grind (arith, tells) }
+    record { weighs = grind (arith, tells); holds = grind (arith, tells) }
 
 pub returns-else-from-code : need.returns-else-from-code
 returns-else-from-code c =
     let b = c .args .self in
     let w = weigh-cells (λ k. k) (spans (b .low) (b .high)) (c .args .code) in
     let h = held-cells (λ k. k) (spans (b .low) (b .high)) (c .args .code) in
-    record { weight = grind (arith, tells); held = grind (arith, tells) }
+    record { weighs = grind (arith, tells); holds = grind (arith, tells) }

@@ -8,9 +8,9 @@ returns c =
     let x = c .args .self in
     let code = c .args .code in
     record {
-      weight = elim (c .if-contains .came) [
+      weighs = elim (c .if-contains .came) [
         | then-contains w ↦ w .result-is ∙ sym (counted-one x code (sym (c .contains .ensures .answer) ∙ w .if-contains .taken))
         | else-contains w ↦ w .result-is ∙ sym (counted-none x code (sym (c .contains .ensures .answer) ∙ w .if-contains .left))
       ];
-      held = c .contains-2 .ensures .answer ∙ sym (held-is x code);
+      holds = c .contains-2 .ensures .answer ∙ sym (held-is x code);
     }

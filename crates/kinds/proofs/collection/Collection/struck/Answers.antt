@@ -5,7 +5,7 @@ use Prim.Native.Nat.{_<_}
 use native.Mathlib.Omega.{arith}
 use Rattle.std.proofs.shelf.Tests.{lt-ltb, le-ltb, both-ways}
 use Rattle.entry.proofs.Verdicts.{strikes-unknown, strikes-only, strikes-taken}
-use Rattle.kinds.specs.Codes.{small}
+use Rattle.kinds.specs.Codes.{any-code}
 use Rattle.kinds.specs.Collections.{collected}
 use Rattle.kinds.proofs.CollectionFacts.{some-member, sized, no-gap, held-is, holding, now-struck, alone, other}
 use Rattle.kinds.proofs.collection.Collection.struck.Needs as need
@@ -14,13 +14,13 @@ use Rattle.kinds.proofs.collection.Collection.struck.Needs.{else-is-empty·by�
 pub returns-then-code-gt63 : need.returns-then-code-gt63
 returns-then-code-gt63 c =
     let x = c .args .self in
-    strikes-unknown collected small (c .args .code) x (sized x) (le-ltb (c .args .code) 64 (omega arith))
+    strikes-unknown collected any-code (c .args .code) x (sized x) (le-ltb (c .args .code) 64 (omega arith))
 
 pub returns-then-contains : need.returns-then-contains
 returns-then-contains c =
     let x = c .args .self in
     let code = c .args .code in
-    strikes-only collected small code x (sized x) (lt-ltb code 64 (omega arith))
+    strikes-only collected any-code code x (sized x) (lt-ltb code 64 (omega arith))
     (held-is x code ∙ sym (c .if-contains .ensures tt .answer))
     (alone x (c .without-rest .result) code (omega arith) (c .without-rest .ensures .each) (c .is-empty .ensures .none .0 (c .if-is-empty .taken)))
 
@@ -30,7 +30,7 @@ returns c =
     let code = c .args .code in
     let rest = c .without-rest .result in
     let below : code < 64 = omega arith in
-    strikes-taken collected small code x (sized x) (holding x rest) (lt-ltb code 64 below)
+    strikes-taken collected any-code code x (sized x) (holding x rest) (lt-ltb code 64 below)
     (λ t. elim (some-member rest) [
       | inl f ↦ let o = other x rest code below (c .without-rest .ensures .each) (f .0) (f .1) in (f .0, o .0, o .1)
       | inr n ↦ elim (c .else-is-empty .came) [

@@ -9,18 +9,18 @@ returns-in-0 c =
     let d = c .args .self in
     let w = weigh-cells duty-weight (either (d .off) (d .on)) (c .args .code) in
     let h = held-cells duty-weight (either (d .off) (d .on)) (c .args .code) in
-    record { weight = grind (arith, tells); held = grind (arith, tells) }
+    record { weighs = grind (arith, tells); holds = grind (arith, tells) }
 
 pub returns-in-1 : need.returns-in-1
 returns-in-1 c =
     let d = c .args .self in
     let w = weigh-cells duty-weight (either (d .off) (d .on)) (c .args .code) in
     let h = held-cells duty-weight (either (d .off) (d .on)) (c .args .code) in
-    record { weight = grind (arith, tells); held = grind (arith, tells) }
+    record { weighs = grind (arith, tells); holds = grind (arith, tells) }
 
 pub returns-in-rest : need.returns-in-rest
 returns-in-rest c =
     let d = c .args .self in
     let w = weigh-cells duty-weight (either (d .off) (d .on)) (c .args .code) in
     let h = held-cells duty-weight (either (d .off) (d .on)) (c .args .code) in
-    record { weight = grind (arith, tells); held = grind (arith, tells) }
+    record { weighs = grind (arith, tells); holds = grind (arith, tells) }

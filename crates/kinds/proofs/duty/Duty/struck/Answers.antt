@@ -1,7 +1,7 @@
 use native.Mathlib.Omega.{arith}
 use Rattle.std.proofs.shelf.Tests.{both-ways, not-true, not-false, le-ltb}
 use Rattle.entry.proofs.Verdicts.{strikes-unknown}
-use Rattle.kinds.specs.Duties.{two, duties}
+use Rattle.kinds.specs.Duties.{duty-code, duties}
 use Rattle.kinds.proofs.DutyFacts.{sized, only-off-struck, only-on-struck, strikes-off, strikes-on}
 use Rattle.kinds.proofs.duty.Duty.struck.Needs as need
 
@@ -28,4 +28,4 @@ returns-in-1-2·2 c =
 pub returns-in-rest : need.returns-in-rest
 returns-in-rest c =
     let d = c .args .self in
-    strikes-unknown duties two (c .args .code) d (sized (d .off) (d .on)) (le-ltb (c .args .code) 2 (omega arith))
+    strikes-unknown duties duty-code (c .args .code) d (sized (d .off) (d .on)) (le-ltb (c .args .code) 2 (omega arith))
