@@ -1,4 +1,4 @@
 mod Digits
 mod Listed
-pub mod Roads
+pub mod Turns
 pub mod Sets

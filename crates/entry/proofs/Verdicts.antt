@@ -1,10 +1,10 @@
 -- What a strike or a grant of a code answers and leaves, case by case, for an entry of any kind.
 use mathlib.Core.Path.{_≡_, refl, sym, ap, subst, _∙_}
-use mathlib.Core.Bool.{Bool, true, false, not}
+use mathlib.Core.Bool.{Bool, true, false}
 use mathlib.Core.Logic.{inl, inr}
-use Prim.Native.Nat.{ℕ, _≤_}
+use Prim.Native.Nat.{ℕ}
 use native.Mathlib.Omega.{arith}
-use lib.ListN.{length, set, length-set}
+use lib.ListN.{length-set}
 use Rattle.std.specs.Orderings.{Decides}
 use Rattle.std.specs.declared.option.Option.the-variants.{Some, None}
 use Rattle.std.specs.declared.result.Result.the-variants.{Ok, Err}
@@ -14,7 +14,7 @@ use Rattle.entry.specs.declared.refusal.Refusal.{Refusal}
 use Rattle.entry.specs.declared.refusal.Refusal.the-variants.{UnknownCode, OnlyCode, WeightGap}
 use Rattle.entry.specs.Refusals.{Rows, row-of, topmost, answered, unless}
 use Rattle.entry.specs.Cells.{Meaning, vacant, weigh, held, NoGap, Sized}
-use Rattle.entry.specs.Edits.{marked, struck, granted, only, gapless, strike-rows, grant-rows, Edited, Strikes, Grants}
+use Rattle.entry.specs.Edits.{marked, struck, granted, only, gapless, Edited, Strikes, Grants}
 use Rattle.entry.proofs.CellFacts.{weigh-marked, held-marked-other}
 use Rattle.entry.proofs.Tested.{decides-only, decides-gapless}
 

@@ -1,8 +1,8 @@
 -- The lightest and the heaviest weight by what they mean are those worked out.
-use mathlib.Core.Path.{_≡_, refl, sym, ap, subst, _∙_}
-use mathlib.Core.Bool.{Bool, true, false, cond}
+use mathlib.Core.Path.{_≡_, refl, sym, subst, _∙_}
+use mathlib.Core.Bool.{true, false}
 use mathlib.Core.Logic.{_⊎_, inl, inr}
-use mathlib.Core.List.{List, [], _∷_}
+use mathlib.Core.List.{[], _∷_}
 use Prim.Native.Nat.{ℕ, zero, suc, _≤_, min, max}
 use native.Mathlib.Omega.{arith}
 use Rattle.std.specs.Iters.{folded}
@@ -139,3 +139,15 @@ lightest-is m w p = unique min (λ w v. w ≤ v) lightest-ordered m w (lightest 
 
 pub heaviest-is : (m : Meaning) (w : ℕ) → Heaviest m w → w ≡ heaviest m
 heaviest-is m w p = unique max (λ w v. v ≤ w) heaviest-ordered m w (heaviest m) p (extreme max (λ w v. v ≤ w) heaviest-ordered m)
+
+-- a held code's weight, ahead of that of each held code
+pub attained : {Ahead : ℕ → ℕ → Type 0} {m : Meaning} {w : ℕ} (k : ℕ) → held m k ≡ true → weigh m k ≡ w → ((c : ℕ) → held m c ≡ true → Ahead w (weigh m c)) → Extreme Ahead m w
+attained {Ahead} {m} k h e every =
+    record { none = λ never. absurd (both-ways (held m k) (never k) h); some = λ _ _. (k, h, e); every = every }
+
+-- where each held code weighs 0, as where none is held
+pub weightless : (m : Meaning) → ((c : ℕ) → held m c ≡ true → weigh m c ≡ 0) → Lightest m 0 × Heaviest m 0
+weightless m weighs = (
+  record { none = λ _. refl; some = λ c t. (c, t, weighs c t); every = λ c t. omega arith },
+  record { none = λ _. refl; some = λ c t. (c, t, weighs c t); every = λ c t. omega (arith, weighs c t) },
+)

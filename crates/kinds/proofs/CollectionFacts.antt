@@ -14,8 +14,9 @@ use Rattle.entry.specs.Edits.{some, struck, granted}
 use Rattle.entry.specs.Weights.{Lightest, Heaviest}
 use Rattle.entry.proofs.CellFacts.{length-cells, held-cells, weigh-cells, weigh-below, cells-struck, cells-granted, light-gapless}
 use Rattle.entry.proofs.Tested.{decides-some}
+use Rattle.entry.proofs.Weighing.{attained, weightless}
 use Rattle.kinds.specs.declared.collection.Collection.{Collection}
-use Rattle.kinds.specs.Collections.{counting, collected}
+use Rattle.kinds.specs.Collections.{collected}
 
 -- a member, or none
 pub some-member : (s : CodeSet) → ((c : ℕ) × (member s c ≡ true)) ⊎ ((c : ℕ) → member s c ≡ false)
@@ -92,35 +93,12 @@ module _ (x : Collection) where
   pub heaviest-some : (c : ℕ) → (holds c && counted c) ≡ true → Heaviest m 1
   heaviest-some c t =
       let both = and-parts (holds c) (counted c) t in
-      record {
-        none = λ never. absurd (both-ways (held m c) (never c) (held-is c ∙ both .0));
-        some = λ _ _. (c, held-is c ∙ both .0, counted-one c (both .1));
-        every = λ k _. light k;
-      }
-
-  -- where no counted code is held, what is held weighs 0
-  module _ (never : (c : ℕ) → (holds c && counted c) ≡ false) where
-    weightless : (c : ℕ) → held m c ≡ true → weigh m c ≡ 0
-    weightless c t =
-        counted-none c (elim (and-cases (holds c) (counted c) (never c)) [
-          | inl f ↦ absurd (both-ways (holds c) f (sym (held-is c) ∙ t))
-          | inr f ↦ f
-        ])
-
-    pub heaviest-none : Heaviest m 0
-    heaviest-none = record { none = λ _. refl; some = λ c t. (c, t, weightless c t); every = λ c t. omega (arith, weightless c t) }
-
-    pub lightest-none : Lightest m 0
-    lightest-none = record { none = λ _. refl; some = λ c t. (c, t, weightless c t); every = λ c t. omega arith }
+      attained c (held-is c ∙ both .0) (counted-one c (both .1)) (λ k _. light k)
 
   pub lightest-free : (c : ℕ) → (holds c && not (counted c)) ≡ true → Lightest m 0
   lightest-free c t =
       let both = and-parts (holds c) (not (counted c)) t in
-      record {
-        none = λ _. refl;
-        some = λ _ _. (c, held-is c ∙ both .0, counted-none c (not-true (counted c) (both .1)));
-        every = λ _ _. omega arith;
-      }
+      attained c (held-is c ∙ both .0) (counted-none c (not-true (counted c) (both .1))) (λ _ _. omega arith)
 
   pub lightest-counted : ((c : ℕ) → (holds c && not (counted c)) ≡ false) → (c : ℕ) → holds c ≡ true → Lightest m 1
   lightest-counted never c t =
@@ -129,11 +107,15 @@ module _ (x : Collection) where
         | inl f ↦ absurd (both-ways (holds k) f (sym (held-is k) ∙ h))
         | inr f ↦ not-false (counted k) f
       ]) in
-      record {
-        none = λ empty. absurd (both-ways (held m c) (empty c) (held-is c ∙ t));
-        some = λ k h. (k, h, one k h);
-        every = λ k h. omega (arith, one k h);
-      }
+      attained c (held-is c ∙ t) (one c (held-is c ∙ t)) (λ k h. omega (arith, one k h))
+
+  -- where no counted code is held, what is held weighs 0
+  pub free-weightless : ((c : ℕ) → (holds c && counted c) ≡ false) → Lightest m 0 × Heaviest m 0
+  free-weightless never =
+      weightless m (λ c t. counted-none c (elim (and-cases (holds c) (counted c) (never c)) [
+        | inl f ↦ absurd (both-ways (holds c) f (sym (held-is c) ∙ t))
+        | inr f ↦ f
+      ]))
 
   -- the entry with other codes held
   abbrev pub holding : CodeSet → Collection

@@ -1,19 +1,20 @@
 -- What a duty entry holds, and what a strike or a grant makes of it.
-use mathlib.Core.Path.{_≡_, refl, sym, ap, subst, _∙_}
-use mathlib.Core.Bool.{Bool, true, false, not, _&&_, _||_}
+use mathlib.Core.Path.{_≡_, refl, sym, ap, _∙_}
+use mathlib.Core.Bool.{Bool, true, false}
 use mathlib.Core.Logic.{_⊎_, inl, inr}
-use Prim.Native.Nat.{ℕ, _<_, _≤_}
+use Prim.Native.Nat.{ℕ, _≤_}
 use native.Mathlib.Omega.{arith}
-use lib.Dec.{ltb, eqb}
+use lib.Dec.{eqb}
+use Rattle.std.specs.declared.result.Result.the-variants.{Ok, Err}
 use Rattle.std.proofs.shelf.Tests.{cases-eq, cases-bool, cond-true, eq-eqb, ltb-true, both-ways}
 use Rattle.std.proofs.shelf.Ways.{tells}
 use Rattle.entry.specs.Cells.{Meaning, weigh, held, cells, NoGap, Sized}
 use Rattle.entry.specs.Edits.{struck, granted, Strikes, Grants}
-use Rattle.entry.specs.Weights.{Extreme, Lightest, Heaviest}
+use Rattle.entry.specs.Weights.{Lightest, Heaviest}
 use Rattle.entry.proofs.CellFacts.{length-cells, held-cells, held-code, weigh-cells, weigh-below, cells-struck, cells-granted, light-gapless}
-use Rattle.entry.proofs.Verdicts.{strikes-unknown, strikes-only, strikes-taken, grants-unknown, grants-taken}
-use Rattle.std.specs.declared.result.Result.the-variants.{Ok, Err}
-use Rattle.entry.specs.declared.refusal.Refusal.the-variants.{UnknownCode, OnlyCode}
+use Rattle.entry.proofs.Weighing.{attained, weightless}
+use Rattle.entry.proofs.Verdicts.{strikes-only, strikes-taken, grants-taken}
+use Rattle.entry.specs.declared.refusal.Refusal.the-variants.{OnlyCode}
 use Rattle.kinds.specs.declared.duty.Duty.{Duty}
 use Rattle.kinds.specs.Duties.{duty-code, duties, duty-weight, either}
 
@@ -71,32 +72,20 @@ module _ (off on : Bool) where
   on-granted = cells-granted duty-weight (either off on) (either off true) 1 (omega arith) (λ k h. grind (arith, tells))
 
   pub heaviest-on : on ≡ true → Heaviest m 1
-  heaviest-on t = record {
-    none = λ never. absurd (both-ways (held m 1) (never 1) (at-on ∙ t));
-    some = λ _ _. (1, at-on ∙ t, weigh-on);
-    every = λ c _. light c;
-  }
-
-  -- where 1 is not held, what is held weighs 0
-  only-off : on ≡ false → (c : ℕ) → held m c ≡ true → weigh m c ≡ 0
-  only-off f c t = elim (which c t) [ inl z ↦ ap (weigh m) (z .0) ∙ weigh-off | inr o ↦ absurd (both-ways on f (o .1)) ]
-
-  pub heaviest-off : on ≡ false → Heaviest m 0
-  heaviest-off f = record { none = λ _. refl; some = λ c t. (c, t, only-off f c t); every = λ c t. omega (arith, only-off f c t) }
+  heaviest-on t = attained 1 (at-on ∙ t) weigh-on (λ c _. light c)
 
   pub lightest-on : on ≡ true → off ≡ false → Lightest m 1
-  lightest-on t f = record {
-    none = λ never. absurd (both-ways (held m 1) (never 1) (at-on ∙ t));
-    some = λ _ _. (1, at-on ∙ t, weigh-on);
-    every = λ c h. elim (which c h) [ inl z ↦ absurd (both-ways off f (z .1)) | inr o ↦ omega (arith, ap (weigh m) (o .0), weigh-on) ];
-  }
+  lightest-on t f =
+      attained 1 (at-on ∙ t) weigh-on
+      (λ c h. elim (which c h) [ inl z ↦ absurd (both-ways off f (z .1)) | inr o ↦ omega (arith, ap (weigh m) (o .0), weigh-on) ])
 
-  pub lightest-off : (on ≡ false) ⊎ (off ≡ true) → Lightest m 0
-  lightest-off side = record {
-    none = λ _. refl;
-    some = λ c t. elim side [ inl f ↦ (c, t, only-off f c t) | inr h ↦ (0, at-off ∙ h, weigh-off) ];
-    every = λ c t. omega arith;
-  }
+  pub lightest-off : off ≡ true → Lightest m 0
+  lightest-off t = attained 0 (at-off ∙ t) weigh-off (λ c h. omega arith)
+
+  -- where 1 is not held, what is held weighs 0
+  pub off-weightless : on ≡ false → Lightest m 0 × Heaviest m 0
+  off-weightless f =
+      weightless m (λ c t. elim (which c t) [ inl z ↦ ap (weigh m) (z .0) ∙ weigh-off | inr o ↦ absurd (both-ways on f (o .1)) ])
 
 -- strikes and grants, code by code
 module _ (d : Duty) where

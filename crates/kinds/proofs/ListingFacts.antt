@@ -1,8 +1,8 @@
 -- What a listing of codes tells of its numbers.
-use mathlib.Core.Path.{_≡_, refl, sym, ap, _∙_}
-use mathlib.Core.Bool.{Bool, true, false, not, _&&_, _||_, cond}
-use mathlib.Core.Logic.{_⊎_, inl, inr}
-use mathlib.Core.List.{List, [], _∷_, _++_}
+use mathlib.Core.Path.{_≡_, refl, ap, _∙_}
+use mathlib.Core.Bool.{Bool, true, false}
+use mathlib.Core.Logic.{inl, inr}
+use mathlib.Core.List.{List, [], _∷_}
 use Prim.Native.Nat.{ℕ}
 use lib.Dec.{eqb}
 use native.Mathlib.Omega.{arith}
@@ -17,7 +17,7 @@ module _ {X : Type 0} (known : ℕ → Bool) (ns : List ℕ) (x : X) where
   pub all-taken : all-known known ns ≡ true → answered (topmost (listing-rows known ns)) x ≡ Ok x
   all-taken t = rw t refl
 
-  pub one-refused : all-known known ns ≡ false → answered (topmost (listing-rows known ns)) x ≡ Err (row 9)
+  one-refused : all-known known ns ≡ false → answered (topmost (listing-rows known ns)) x ≡ Err (row 9)
   one-refused f = rw f refl
 
   pub taken-all : (y : X) → Ok y ≡ answered (topmost (listing-rows known ns)) x → (all-known known ns ≡ true) × (y ≡ x)
@@ -26,17 +26,6 @@ module _ {X : Type 0} (known : ℕ → Bool) (ns : List ℕ) (x : X) where
         | inl t ↦ let o : Ok y ≡ Ok x = e ∙ all-taken t in (t, cc)
         | inr f ↦ let o : _≡_ {A = Result X Row} (Ok y) (Err (row 9)) = e ∙ one-refused f in let z : _≡_ {A = ℕ} 0 1 = cc in absurd (omega arith)
       ]
-
-  pub refused-one : (r : Row) → Err r ≡ answered (topmost (listing-rows known ns)) x → (all-known known ns ≡ false) × (r ≡ row 9)
-  refused-one r e =
-      elim (cases-bool (all-known known ns)) [
-        | inl t ↦ let o : _≡_ {A = Result X Row} (Err r) (Ok x) = e ∙ all-taken t in let z : _≡_ {A = ℕ} 0 1 = cc in absurd (omega arith)
-        | inr f ↦ let o : _≡_ {A = Result X Row} (Err r) (Err (row 9)) = e ∙ one-refused f in (f, cc)
-      ]
-
--- duty-code listings, neither refused
-pub both-taken : {X : Type 0} (known : ℕ → Bool) (ns ks : List ℕ) (x : X) → all-known known ns ≡ true → all-known known ks ≡ true → answered (topmost (listing-rows known ns ++ listing-rows known ks)) x ≡ Ok x
-both-taken known ns ks x n k = rw (n, k) refl
 
 -- of a listing with known codes alone, each code is known
 pub listed-known : (known : ℕ → Bool) (ns : List ℕ) (c : ℕ) → all-known known ns ≡ true → lists ns c ≡ true → known c ≡ true

@@ -1,17 +1,18 @@
 -- What a run of codes holds, and what a strike or a grant makes of it.
-use mathlib.Core.Path.{_≡_, refl, sym, ap, subst, _∙_}
-use mathlib.Core.Bool.{Bool, true, false, not, _&&_, _||_}
+use mathlib.Core.Path.{_≡_, refl, sym, ap, _∙_}
+use mathlib.Core.Bool.{true, false}
 use mathlib.Core.Logic.{_⊎_, inl, inr}
 use Prim.Native.Nat.{ℕ, _<_, _≤_, _+_, _-_}
 use native.Mathlib.Omega.{arith}
-use lib.Dec.{ltb, leb, eqb}
+use lib.Dec.{ltb, leb}
 use lib.ListN.{length}
-use Rattle.std.proofs.shelf.Tests.{and-parts, leb-true, both-ways, le-leb, and-from, cond-true, lt-ltb}
+use Rattle.std.proofs.shelf.Tests.{and-parts, leb-true, le-leb, and-from, cond-true, lt-ltb}
 use Rattle.std.proofs.shelf.Ways.{tells}
 use Rattle.entry.specs.Cells.{Meaning, weigh, held, NoGap, Sized}
 use Rattle.entry.specs.Edits.{struck, granted}
 use Rattle.entry.specs.Weights.{Lightest, Heaviest}
 use Rattle.entry.proofs.CellFacts.{length-cells, held-code, code-held, code-not, weigh-below, weigh-cells, weigh-marked, cells-struck, cells-granted, struck-stays, struck-was, granted-stays, granted-was}
+use Rattle.entry.proofs.Weighing.{attained, weightless}
 use Rattle.kinds.specs.Spans.{spans, spanned}
 
 module _ (low high : ℕ) where
@@ -42,29 +43,18 @@ module _ (low high : ℕ) where
   pub lightest-low : low ≤ high → high ≤ 63 → Lightest (spanned low high) low
   lightest-low p q =
       let h = run-in low (omega arith) p (omega arith) in
-      record {
-        none = λ never. absurd (both-ways _ (never low) h);
-        some = λ _ _. (low, h, in-run low h .3);
-        every = λ c t. omega (arith, in-run c t .0, in-run c t .3);
-      }
+      attained low h (in-run low h .3) (λ c t. omega (arith, in-run c t .0, in-run c t .3))
 
   pub heaviest-high : low ≤ high → high ≤ 63 → Heaviest (spanned low high) high
   heaviest-high p q =
       let h = run-in high p (omega arith) (omega arith) in
-      record {
-        none = λ never. absurd (both-ways _ (never high) h);
-        some = λ _ _. (high, h, in-run high h .3);
-        every = λ c t. omega (arith, in-run c t .1, in-run c t .3);
-      }
+      attained high h (in-run high h .3) (λ c t. omega (arith, in-run c t .1, in-run c t .3))
 
   pub none-held : high < low → (c : ℕ) → held (spanned low high) c ≡ true → ⊥
   none-held p c t = omega (arith, in-run c t .0, in-run c t .1)
 
-  pub lightest-none : high < low → Lightest (spanned low high) 0
-  lightest-none p = record { none = λ _. refl; some = λ c t. absurd (none-held p c t); every = λ c t. absurd (none-held p c t) }
-
-  pub heaviest-none : high < low → Heaviest (spanned low high) 0
-  heaviest-none p = record { none = λ _. refl; some = λ c t. absurd (none-held p c t); every = λ c t. absurd (none-held p c t) }
+  pub empty-weightless : high < low → Lightest (spanned low high) 0 × Heaviest (spanned low high) 0
+  empty-weightless p = weightless (spanned low high) (λ c t. absurd (none-held p c t))
 
   module _ (c : ℕ) (below : c < 64) where
     -- an end can go

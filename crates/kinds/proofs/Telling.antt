@@ -1,4 +1,4 @@
--- The duty-code weights of an entry, by what they mean.
+-- The two weights of an entry, by what they mean.
 use Prim.Native.Nat.{ℕ}
 use Rattle.entry.specs.Cells.{Meaning}
 use Rattle.entry.specs.Weights.{Lightest, Heaviest}

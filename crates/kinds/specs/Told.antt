@@ -1,4 +1,4 @@
--- What the functions inside a kind tell of an entry: one cell, its duty-code weights, and what an edit makes of it.
+-- What the functions inside a kind tell of an entry: one cell, its two weights, and what an edit makes of it.
 use mathlib.Core.Path.{_≡_}
 use mathlib.Core.Bool.{Bool}
 use Prim.Native.Nat.{ℕ}

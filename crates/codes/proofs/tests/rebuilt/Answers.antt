@@ -10,7 +10,7 @@ use Rattle.std.proofs.shelf.Elements.{has-append-left, has-push, has-push-cases
 use Rattle.std.proofs.shelf.Ways.{tells, decides-at, decides-like, decides-or, decides-eqb, same-from-decides}
 use Rattle.codes.specs.Members.{member, Listing}
 use Rattle.codes.specs.Coming.{coming}
-use Rattle.codes.proofs.Roads.{came, comes}
+use Rattle.codes.proofs.Turns.{came, comes}
 use Rattle.codes.proofs.Sets.{member-below}
 use Rattle.codes.proofs.tests.rebuilt.Needs as need
 

@@ -5,9 +5,9 @@ use native.Mathlib.Omega.{arith}
 use lib.Dec.{ltb, eqb}
 use lib.ListN.{drop, getD}
 use Rattle.std.specs.declared.option.Option.the-variants.{Some, None}
-use Rattle.std.specs.declared.result.Result.the-variants.{Ok, Err}
+use Rattle.std.specs.declared.result.Result.the-variants.{Ok}
 use Rattle.std.proofs.shelf.Lists.{at-drop-more, at-drop-all}
-use Rattle.std.proofs.shelf.Tests.{lt-ltb, eqb-true, or-from}
+use Rattle.std.proofs.shelf.Tests.{lt-ltb, eqb-true}
 use Rattle.codes.specs.Members.{member}
 use Rattle.entry.specs.Refusals.{row, answered}
 use Rattle.kinds.specs.Listings.{lists, all-known}

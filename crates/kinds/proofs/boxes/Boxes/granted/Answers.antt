@@ -1,5 +1,3 @@
-use mathlib.Core.Path.{_≡_}
-use mathlib.Core.Bool.{true, false}
 use mathlib.Core.Logic.{inl, inr, _⊎_}
 use Prim.Native.Nat.{_<_, _+_}
 use native.Mathlib.Omega.{arith}

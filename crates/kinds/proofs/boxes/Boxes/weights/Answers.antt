@@ -2,7 +2,7 @@ use mathlib.Core.Path.{subst, sym}
 use Rattle.entry.specs.Weights.{Lightest, Heaviest}
 use Rattle.kinds.specs.Spans.{boxed}
 use Rattle.kinds.proofs.Telling.{weights-of}
-use Rattle.kinds.proofs.SpanFacts.{lightest-low, heaviest-high, lightest-none, heaviest-none}
+use Rattle.kinds.proofs.SpanFacts.{lightest-low, heaviest-high, empty-weightless}
 use Rattle.kinds.proofs.boxes.Boxes.weights.Needs as need
 
 pub returns-then-self : need.returns-then-self
@@ -15,4 +15,5 @@ returns-then-self c =
 pub returns-else-self : need.returns-else-self
 returns-else-self c =
     let b = c .args .self in
-    weights-of (boxed b) 0 0 (lightest-none (b .low) (b .high) (c .if-self .left)) (heaviest-none (b .low) (b .high) (c .if-self .left))
+    let none = empty-weightless (b .low) (b .high) (c .if-self .left) in
+    weights-of (boxed b) 0 0 (none .0) (none .1)

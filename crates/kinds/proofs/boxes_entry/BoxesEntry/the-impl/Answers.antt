@@ -1,4 +1,3 @@
-use native.Mathlib.Omega.{arith}
 use Rattle.entry.proofs.CellFacts.{held-known, weigh-unknown}
 use Rattle.kinds.specs.Spans.{spans}
 use Rattle.kinds.proofs.SpanFacts.{sized, no-gap}

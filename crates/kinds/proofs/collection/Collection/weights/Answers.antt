@@ -2,16 +2,14 @@ use mathlib.Core.Path.{refl, sym, _∙_}
 use Rattle.std.proofs.shelf.Tests.{and-parts}
 use Rattle.kinds.specs.Collections.{collected}
 use Rattle.kinds.proofs.Telling.{weights-of}
-use Rattle.kinds.proofs.CollectionFacts.{found, heaviest-some, heaviest-none, lightest-free, lightest-none, lightest-counted}
+use Rattle.kinds.proofs.CollectionFacts.{found, heaviest-some, lightest-free, lightest-counted, free-weightless}
 use Rattle.kinds.proofs.collection.Collection.weights.Needs as need
 
 pub returns-in-rest-true : need.returns-in-rest-true
 returns-in-rest-true c =
     let x = c .args .self in
-    let none = c .in-rest-true .ensures tt .none .0 refl in
-    weights-of (collected x) 0 0
-    (lightest-none x (λ k. sym (c .intersection-counting .ensures k) ∙ none k))
-    (heaviest-none x (λ k. sym (c .intersection-counting .ensures k) ∙ none k))
+    let none = free-weightless x (λ k. sym (c .intersection-counting .ensures k) ∙ c .in-rest-true .ensures tt .none .0 refl k) in
+    weights-of (collected x) 0 0 (none .0) (none .1)
 
 pub returns-in-false-false : need.returns-in-false-false
 returns-in-false-false c =

@@ -4,12 +4,9 @@ use mathlib.Core.Bool.{true}
 use mathlib.Core.List.{List, [], _∷_, _++_}
 use Prim.Native.Nat.{ℕ}
 use native.Mathlib.Omega.{arith}
-use lib.ListN.{length}
 use Rattle.std.specs.Iters.{yields}
 use Rattle.std.specs.shelf.Lists.{Has}
-use Rattle.std.proofs.shelf.Adapters.{Road}
 use Rattle.std.proofs.shelf.Elements.{has-append-right, has-getD}
-use Rattle.std.proofs.shelf.Roads.{road-from-shown}
 use Rattle.codes.specs.declared.iter.Codes.{Codes}
 use Rattle.codes.specs.declared.set.CodeSet.{CodeSet}
 use Rattle.codes.specs.Coming.{coming, Gives}
@@ -25,7 +22,3 @@ comes s i xs j k code h y e =
     let whole = came i xs j y ∙ ap (λ ys. xs ++ ys) e in
     let found = has-append-right xs (code ∷ coming k) code (has-getD (code ∷ coming k) 0 code (omega arith)) in
     h .exact code .1 (subst (λ ys. Has ys code) (sym whole) found)
-
--- for a chain of iterators that ends in `collect`, `count` or the like
-pub road : (i : Codes) → Road Gives (λ x. x) i (coming i)
-road = road-from-shown Gives (λ x. x) coming (λ i j h. ap length (h .0)) (λ i x j h. h)
