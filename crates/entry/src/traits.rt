@@ -7,8 +7,8 @@ ghost use Rattle.entry.specs.Weights.{lightest, heaviest, Lightest, Heaviest};
 ghost use Rattle.entry.specs.Edits.{Strikes, Grants};
 use crate::refusal::Refusal;
 
-// A kind of entry. An entry is what one day of a plan may hold: a set of codes 0 to 63, each with a weight.
-// Everything above is written once for every kind, from the meaning and the laws below.
+// A kind of entry. An entry says which codes one day of a plan may have, and what each of the kind's codes weighs.
+// The layers above know of a kind only the members, laws and methods below.
 pub trait Entry: Copy {
     // The kind's top: no code of the kind weighs more.
     const TOP: u32;
@@ -51,12 +51,12 @@ pub trait Entry: Copy {
     fn weight(&self, code: u32) -> u32
         ensures { λ r. ⌜ r ≡ weigh (meaning (now (self .entry))) code ⌝ };
 
-    // The smallest weight of a held code, 0 where none is held.
+    // What the lightest held code weighs; 0 for an entry without codes.
     fn lightest(&self) -> u32
         ensures equals { λ r. ⌜ r ≡ lightest (meaning (now (self .entry))) ⌝ }
         ensures means { λ r. ⌜ Lightest (meaning (now (self .entry))) r ⌝ };
 
-    // The largest weight of a held code, 0 where none is held.
+    // What the heaviest held code weighs; 0 for an entry without codes.
     fn heaviest(&self) -> u32
         ensures equals { λ r. ⌜ r ≡ heaviest (meaning (now (self .entry))) ⌝ }
         ensures means { λ r. ⌜ Heaviest (meaning (now (self .entry))) r ⌝ };

@@ -1,4 +1,4 @@
--- What a collection entry means: a counted code weighs 1 and any other 0, and all 64 codes are known.
+-- What a collection entry means: all 64 codes are known, those that count weigh 1, and the others weigh nothing.
 use mathlib.Core.Bool.{Bool, cond}
 use Prim.Native.Nat.{ℕ}
 use Rattle.codes.specs.Members.{member}
