@@ -3,10 +3,12 @@ use mathlib.Core.Bool.{Bool, _&&_, _||_}
 use mathlib.Core.List.{[], _∷_}
 use Prim.Native.Nat.{ℕ}
 use lib.Dec.{leb, ltb}
-use Rattle.entry.specs.Refusals.{Rows, row}
+use Rattle.std.specs.declared.result.Result.{Result}
+use Rattle.entry.specs.Refusals.{Row, row, topmost, answered}
 use Rattle.entry.specs.Cells.{Meaning, cells}
 use Rattle.kinds.specs.declared.boxes.Boxes.{Boxes}
 
+-- c lies from low to high
 abbrev pub spans : ℕ → ℕ → ℕ → Bool
 spans low high c = leb low c && leb c high
 
@@ -16,6 +18,6 @@ spanned low high = cells (λ c. c) (spans low high)
 abbrev pub boxed : Boxes → Meaning
 boxed b = spanned (b .low) (b .high)
 
--- neither end of a span may be above 63
-abbrev pub span-rows : ℕ → ℕ → Rows
-span-rows low high = (ltb 63 low || ltb 63 high, row 9) ∷ []
+-- what is built from two ends, or the refusal where either is above 63
+abbrev pub boxes-of : ℕ → ℕ → Result Meaning Row
+boxes-of low high = answered (topmost ((ltb 63 low || ltb 63 high, row 9) ∷ [])) (spanned low high)

@@ -1,7 +1,7 @@
 ghost use mathlib.Core.Path.{_≡_};
-ghost use Rattle.entry.specs.Refusals.{topmost, told, answered};
+ghost use Rattle.entry.specs.Refusals.{told};
 ghost use Rattle.kinds.specs.Codes.{any-code};
-ghost use Rattle.kinds.specs.Spans.{boxed, spanned, span-rows};
+ghost use Rattle.kinds.specs.Spans.{boxed, boxes-of};
 ghost use Rattle.kinds.specs.Told.{CellOf, WeightsOf, Struck, Granted};
 use crate::boxes::Boxes;
 use crate::cell::Cell;
@@ -13,7 +13,7 @@ use entry::traits::Entry;
 impl Boxes {
     // The codes from low to high; refused where either is no code.
     pub fn new(low: u32, high: u32) -> Result<Boxes, Refusal>
-        ensures { λ r. ⌜ told boxed r ≡ answered (topmost (span-rows low high)) (spanned low high) ⌝ }
+        ensures { λ r. ⌜ told boxed r ≡ boxes-of low high ⌝ }
     {
         if low > 63 || high > 63 {
             return Err(Refusal::UnknownCode);

@@ -1,10 +1,10 @@
 ghost use mathlib.Core.Path.{_≡_};
-ghost use mathlib.Core.List.{List, _++_};
+ghost use mathlib.Core.List.{List};
 ghost use Prim.Native.Nat.{ℕ};
-ghost use Rattle.entry.specs.Refusals.{topmost, told, answered};
-ghost use Rattle.kinds.specs.Listings.{lists, listing-rows, Listed};
+ghost use Rattle.entry.specs.Refusals.{told};
+ghost use Rattle.kinds.specs.Listings.{Listed};
 ghost use Rattle.kinds.specs.Codes.{any-code};
-ghost use Rattle.kinds.specs.Collections.{collected, counting};
+ghost use Rattle.kinds.specs.Collections.{collected, collection-of};
 ghost use Rattle.kinds.specs.Told.{CellOf, WeightsOf, Struck, Granted};
 use crate::cell::Cell;
 use crate::cell::Weights;
@@ -18,7 +18,7 @@ use entry::traits::Entry;
 impl Collection {
     // The listed codes, of which those in `counts` count; refused where either list has a number that is no code.
     pub fn new(codes: &[u32], counts: &[u32]) -> Result<Collection, Refusal>
-        ensures { λ r. ⌜ told collected r ≡ answered (topmost (listing-rows any-code (now (codes .entry)) ++ listing-rows any-code (now (counts .entry)))) (counting (lists (now (counts .entry))) (lists (now (codes .entry)))) ⌝ }
+        ensures { λ r. ⌜ told collected r ≡ collection-of (now (codes .entry)) (now (counts .entry)) ⌝ }
     {
         Collection::from_listings(
             listed::<CollectionEntry>(codes),
@@ -31,7 +31,7 @@ impl Collection {
         codes: Result<CodeSet, Refusal>,
         counts: Result<CodeSet, Refusal>,
     ) -> Result<Collection, Refusal>
-        ensures { λ r. ⌜ ((ns ks : List ℕ) → Listed any-code ns codes → Listed any-code ks counts → told collected r ≡ answered (topmost (listing-rows any-code ns ++ listing-rows any-code ks)) (counting (lists ks) (lists ns))) ⌝ }
+        ensures { λ r. ⌜ ((ns ks : List ℕ) → Listed any-code ns codes → Listed any-code ks counts → told collected r ≡ collection-of ns ks) ⌝ }
     {
         let held = codes?;
         let counted = counts?;

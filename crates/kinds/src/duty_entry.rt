@@ -1,10 +1,9 @@
 ghost use mathlib.Core.Path.{_≡_};
 ghost use mathlib.Core.List.{List};
 ghost use Prim.Native.Nat.{ℕ};
-ghost use Rattle.entry.specs.Refusals.{topmost, told, answered};
-ghost use Rattle.entry.specs.Cells.{cells};
-ghost use Rattle.kinds.specs.Listings.{lists, listing-rows, Listed};
-ghost use Rattle.kinds.specs.Duties.{duty-code, duties, duty-weight};
+ghost use Rattle.entry.specs.Refusals.{told};
+ghost use Rattle.kinds.specs.Listings.{Listed};
+ghost use Rattle.kinds.specs.Duties.{duty-code, duties, duty-of};
 ghost use Rattle.kinds.specs.Told.{CellOf, WeightsOf, Struck, Granted};
 use crate::cell::Cell;
 use crate::cell::Weights;
@@ -18,14 +17,14 @@ use entry::traits::Entry;
 impl Duty {
     // The listed codes; refused where one is neither 0 nor 1.
     pub fn new(codes: &[u32]) -> Result<Duty, Refusal>
-        ensures { λ r. ⌜ told duties r ≡ answered (topmost (listing-rows duty-code (now (codes .entry)))) (cells duty-weight (lists (now (codes .entry)))) ⌝ }
+        ensures { λ r. ⌜ told duties r ≡ duty-of (now (codes .entry)) ⌝ }
     {
         Duty::from_listing(listed::<DutyEntry>(codes))
     }
 
     // The entry that holds a set of listed codes; a listing that was refused is refused here.
     fn from_listing(listing: Result<CodeSet, Refusal>) -> Result<Duty, Refusal>
-        ensures { λ r. ⌜ ((ns : List ℕ) → Listed duty-code ns listing → told duties r ≡ answered (topmost (listing-rows duty-code ns)) (cells duty-weight (lists ns))) ⌝ }
+        ensures { λ r. ⌜ ((ns : List ℕ) → Listed duty-code ns listing → told duties r ≡ duty-of ns) ⌝ }
     {
         let held = listing?;
         Ok(Duty {
