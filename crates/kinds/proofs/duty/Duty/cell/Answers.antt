@@ -1,26 +1,20 @@
 use native.Mathlib.Omega.{arith}
 use Rattle.std.proofs.shelf.Ways.{tells}
-use Rattle.entry.proofs.CellFacts.{held-cells, weigh-cells}
 use Rattle.kinds.specs.Duties.{duty-weight, either}
+use Rattle.kinds.proofs.Telling.{cell-of}
 use Rattle.kinds.proofs.duty.Duty.cell.Needs as need
 
 pub returns-in-0 : need.returns-in-0
 returns-in-0 c =
     let d = c .args .self in
-    let w = weigh-cells duty-weight (either (d .off) (d .on)) (c .args .code) in
-    let h = held-cells duty-weight (either (d .off) (d .on)) (c .args .code) in
-    record { weighs = grind (arith, tells); holds = grind (arith, tells) }
+    cell-of duty-weight (either (d .off) (d .on)) (c .args .code) _ _ (grind (arith, tells)) (grind (arith, tells))
 
 pub returns-in-1 : need.returns-in-1
 returns-in-1 c =
     let d = c .args .self in
-    let w = weigh-cells duty-weight (either (d .off) (d .on)) (c .args .code) in
-    let h = held-cells duty-weight (either (d .off) (d .on)) (c .args .code) in
-    record { weighs = grind (arith, tells); holds = grind (arith, tells) }
+    cell-of duty-weight (either (d .off) (d .on)) (c .args .code) _ _ (grind (arith, tells)) (grind (arith, tells))
 
 pub returns-in-rest : need.returns-in-rest
 returns-in-rest c =
     let d = c .args .self in
-    let w = weigh-cells duty-weight (either (d .off) (d .on)) (c .args .code) in
-    let h = held-cells duty-weight (either (d .off) (d .on)) (c .args .code) in
-    record { weighs = grind (arith, tells); holds = grind (arith, tells) }
+    cell-of duty-weight (either (d .off) (d .on)) (c .args .code) _ _ (grind (arith, tells)) (grind (arith, tells))
