@@ -40,8 +40,10 @@ fn beyond_the_codes() -> Result<(), Fail> {
         unknown(Collection::new(&[5, 63], &[63])?, code)?;
         unknown(Boxes::new(1, 63)?, code)?;
         check(Duty::new(&[0, code]).is_err())?;
+        check(Collection::new(&[code], &[]).is_err())?;
         check(Collection::new(&[], &[code]).is_err())?;
         check(Boxes::new(code, 0).is_err())?;
+        check(Boxes::new(0, code).is_err())?;
     }
     Ok(())
 }
