@@ -5,7 +5,7 @@ use Rattle.entry.specs.Cells.{Meaning, held}
 use Rattle.ledger.specs.Ledgers.{Ledger}
 use Rattle.ledger.specs.Rosters.{Roster}
 use Rattle.ledger.specs.Rules.{made, ended}
-use Rattle.check.specs.Findings.{Verdict, lawful, not-held, broken, verdict}
+use Rattle.roster.specs.Findings.{Verdict, lawful, not-held, broken, verdict}
 
 abbrev pub with_each : List ℕ → List Roster → List Roster
 with_each [] later = []

@@ -1,10 +1,10 @@
 use crate::definitions::lawful_of_three;
-use check::check as check_roster;
-use check::finding::Finding;
 use entry::refusal::Refusal;
 use entry::traits::Entry;
 use kinds::duty::Duty;
 use ledger::book::Book;
+use roster::check as check_roster;
+use roster::finding::Finding;
 use std::test::Fail;
 
 // A finding in numbers: the refusal, the day, or the rule with the days and the sum of the codes that it shows.

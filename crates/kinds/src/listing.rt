@@ -6,7 +6,7 @@ use entry::traits::Entry;
 
 // The set of the listed codes, in any order and with repeats; refused where the kind does not know one of them.
 pub(crate) fn listed<E: Entry>(codes: &[u32]) -> Result<CodeSet, Refusal>
-    ensures { Listed known codes.now result }
+    ensures { Listed E.known codes.now result }
 {
     let mut set = CodeSet::empty();
     for code in codes {

@@ -50,7 +50,7 @@ impl Book {
         least: u32,
         most: u32,
     ) -> Result<u32, Refusal>
-        ensures { Edits-book top known meaning (calls.Rule first last least most) numbered entries.now self.old result self.new }
+        ensures { Edits-book E.top E.known E.meaning (calls.Rule first last least most) numbered entries.now self.old result self.new }
     {
         let days = day_count(entries)?;
         if first == 0 || last < first || days < last {
@@ -81,7 +81,7 @@ impl Book {
         least: u32,
         most: u32,
     ) -> Result<Option<(u32, u32)>, Refusal>
-        ensures { Edits-book top known meaning (calls.Slide width least most) ranging entries.now self.old result self.new }
+        ensures { Edits-book E.top E.known E.meaning (calls.Slide width least most) ranging entries.now self.old result self.new }
     {
         let days = day_count(entries)?;
         if width == 0 {
@@ -125,14 +125,14 @@ impl Book {
 
     // The callers have seen to it that there is room.
     fn add<E: Entry>(&mut self, rule: Rule)
-        requires { (length (rules-of self.old) < 512) × Within 128 top rule }
+        requires { (length (rules-of self.old) < 512) × Within 128 E.top rule }
         ensures { rules-of self.new ≡ rules-of self.old ++ (rule ∷ []) }
     {
         let _ = self.rules.push(rule);
     }
 
     fn add_windows<E: Entry>(&mut self, count: u32, width: u32, least: u32, most: u32)
-        requires { (length (rules-of self.old) + count ≤ 512) × (1 ≤ width) × ((count ≡ 0 → ⊥) → count + width ≤ 129) × (least ≤ most) × (most ≤ top * width) }
+        requires { (length (rules-of self.old) + count ≤ 512) × (1 ≤ width) × ((count ≡ 0 → ⊥) → count + width ≤ 129) × (least ≤ most) × (most ≤ E.top * width) }
         ensures { rules-of self.new ≡ rules-of self.old ++ windows count width least most }
     {
         for first in 1..count + 1 {
@@ -160,7 +160,7 @@ impl Book {
 
 // Whether least is above most, or most above what so many days can weigh. The product may need 64 bits.
 fn bad_count<E: Entry>(days: u32, least: u32, most: u32) -> bool
-    ensures { result ≡ (nat_lt most least || nat_lt (top * days) most) }
+    ensures { result ≡ (nat_lt most least || nat_lt (E.top * days) most) }
 {
     most < least || u64::from(E::top_weight()) * u64::from(days) < u64::from(most)
 }

@@ -1,11 +1,11 @@
 use crate::refusals;
 use crate::week::{LETTERS, MAPS};
-use check::check;
-use check::finding::Finding;
 use entry::refusal::Refusal;
 use entry::traits::Entry;
 use kinds::collection::Collection;
 use ledger::book::Book;
+use roster::check;
+use roster::finding::Finding;
 use std::io;
 
 // Ten working days. The closed letters count; on days 4 and 8 they stay in the safe.

@@ -12,21 +12,21 @@ use kinds::duty::Duty;
 use std::io;
 use week::{DRAFTS, MAPS, NAMES, Week};
 
-#[derive(Drop)]
+#[derive(Debug, Drop)]
 enum Failure {
-    Refused,
-    Output,
+    Refused(Refusal),
+    Output(io::Error),
 }
 
 impl From<Refusal> for Failure {
-    fn from(_e: Refusal) -> Failure {
-        Failure::Refused
+    fn from(refusal: Refusal) -> Failure {
+        Failure::Refused(refusal)
     }
 }
 
 impl From<io::Error> for Failure {
-    fn from(_e: io::Error) -> Failure {
-        Failure::Output
+    fn from(error: io::Error) -> Failure {
+        Failure::Output(error)
     }
 }
 

@@ -8,11 +8,11 @@ nil-from-first : (xs : List ℕ) → slice_get xs 0 ≡ None → xs ≡ []
 nil-from-first [] e = refl
 nil-from-first (x ∷ xs) e = let z : ◌≡◌ {A = ℕ} 0 1 = cc in absurd (omega arith)
 
-pub returns-in-err-code : goal.returns-in-err-code
-returns-in-err-code c =
-    let nil = nil-from-first (members c.args.self) (sym c.in-err-code.ensures.first) in
-    rw c.from-residual.ensures nil
+pub returns-in_err-code : goal.returns-in_err-code
+returns-in_err-code c =
+    let nil = nil-from-first (members c.args.self) (sym c.in_err-code.ensures.first) in
+    rw c.from_residual.ensures nil
 
 pub returns : goal.returns
 returns c =
-    first-and-others c.args.self c.without.result c.in-ok-code.code (sym c.in-ok-code.ensures.first) c.without.ensures.each
+    first-and-others c.args.self c.without.result c.in_ok-code.code (sym c.in_ok-code.ensures.first) c.without.ensures.each

@@ -5,7 +5,7 @@ use Rattle.kinds.specs.Codes.{any_code}
 use Rattle.kinds.specs.Collections.{collected}
 use Rattle.kinds.specs.CollectionFacts.{some-member, sized, no_gap, held-is, holding, now-struck, alone, other}
 use Rattle.kinds.proofs.collection.Collection.struck.Goals as goal
-use Rattle.kinds.proofs.collection.Collection.struck.Goals.{else-is-empty-via-then-is-empty+else-contains, else-is-empty-via-else-is-empty}
+use Rattle.kinds.proofs.collection.Collection.struck.Goals.{else-is_empty-via-then-is_empty+else-contains, else-is_empty-via-else-is_empty}
 
 pub returns-then-code-gt63 : goal.returns-then-code-gt63
 returns-then-code-gt63 c =
@@ -18,7 +18,7 @@ returns-then-contains c =
     let code = c.args.code in
     strikes-only collected any_code code x (sized x) (lt-ltb code 64 (omega arith))
     (held-is x code ∙ sym c.if-contains.ensures.answer)
-    (alone x c.without-rest.result code (omega arith) c.without-rest.ensures.each (c.is-empty.ensures.none.0 c.if-is-empty.true))
+    (alone x c.without-rest.result code (omega arith) c.without-rest.ensures.each (c.is_empty.ensures.none.0 c.if-is_empty.true))
 
 pub returns : goal.returns
 returns c =
@@ -29,9 +29,9 @@ returns c =
     strikes-taken collected any_code code x (sized x) (holding x rest) (lt-ltb code 64 below)
     (λ t. elim (some-member rest) [
       | inl f ↦ let o = other x rest code below c.without-rest.ensures.each f.0 f.1 in (f.0, o.0, o.1)
-      | inr n ↦ elim c.else-is-empty.branch [
-        | else-is-empty-via-then-is-empty+else-contains w ↦ absurd (both_ways w.contains.result w.if-contains.false (w.contains.ensures.answer ∙ sym (held-is x code) ∙ t))
-        | else-is-empty-via-else-is-empty w ↦ absurd (both_ways c.is-empty.result w.if-is-empty.false (c.is-empty.ensures.none.1 n))
+      | inr n ↦ elim c.else-is_empty.branch [
+        | else-is_empty-via-then-is_empty+else-contains w ↦ absurd (both_ways w.contains.result w.if-contains.false (w.contains.ensures.answer ∙ sym (held-is x code) ∙ t))
+        | else-is_empty-via-else-is_empty w ↦ absurd (both_ways c.is_empty.result w.if-is_empty.false (c.is_empty.ensures.none.1 n))
       ]
     ])
     (no_gap (holding x rest)) (now-struck x rest code below c.without-rest.ensures.each)

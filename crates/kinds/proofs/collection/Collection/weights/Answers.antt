@@ -5,10 +5,10 @@ use Rattle.kinds.proofs.Telling.{weights-of}
 use Rattle.kinds.specs.CollectionFacts.{found, heaviest-some, lightest-free, lightest-counted, free-weightless}
 use Rattle.kinds.proofs.collection.Collection.weights.Goals as goal
 
-pub returns-in-default-true : goal.returns-in-default-true
-returns-in-default-true c =
+pub returns-in_default-true : goal.returns-in_default-true
+returns-in_default-true c =
     let x = c.args.self in
-    let none = free-weightless x (λ k. sym (c.intersection-counting.ensures k) ∙ c.in-default-true.ensures.none.0 refl k) in
+    let none = free-weightless x (λ k. sym (c.intersection-counting.ensures k) ∙ c.in_default-true.ensures.none.0 refl k) in
     weights-of (collected x) 0 0 none.0 none.1
 
 pub returns-in-false-false : goal.returns-in-false-false

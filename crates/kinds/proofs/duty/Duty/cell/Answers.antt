@@ -14,7 +14,7 @@ returns-in-1 c =
     let d = c.args.self in
     cell-of duty-weight (either d.off d.on) c.args.code _ _ (grind (arith, nat_tests)) (grind (arith, nat_tests))
 
-pub returns-in-default : goal.returns-in-default
-returns-in-default c =
+pub returns-in_default : goal.returns-in_default
+returns-in_default c =
     let d = c.args.self in
     cell-of duty-weight (either d.off d.on) c.args.code _ _ (grind (arith, nat_tests)) (grind (arith, nat_tests))

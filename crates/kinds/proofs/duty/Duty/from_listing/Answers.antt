@@ -10,7 +10,7 @@ use Rattle.kinds.proofs.duty.Duty.from_listing.Goals as goal
 
 pub returns : goal.returns
 returns c = λ ns listed.
-    let taken = taken-all duty-code ns (lists ns) (member c.in-ok-held.held) (ap (told member) (sym c.in-ok-held.was) ∙ listed) in
+    let taken = taken-all duty-code ns (lists ns) (member c.in_ok-held.held) (ap (told member) (sym c.in_ok-held.was) ∙ listed) in
     let same : either c.contains.result c.contains-2.result ≡ lists ns =
     λ j k. either_is (lists ns) c.contains.result c.contains-2.result
     (c.contains.ensures.answer ∙ ap (λ f. f 0) taken.1) (c.contains-2.ensures.answer ∙ ap (λ f. f 1) taken.1)

@@ -11,8 +11,8 @@ returns-in-0 c = rw c.in-0.is (grants-off c.args.self)
 pub returns-in-1 : goal.returns-in-1
 returns-in-1 c = rw c.in-1.is (grants-on c.args.self)
 
-pub returns-in-default : goal.returns-in-default
-returns-in-default c =
+pub returns-in_default : goal.returns-in_default
+returns-in_default c =
     let d = c.args.self in
     grants-unknown duties duty-code c.args.code d (sized d.off d.on) (le-ltb c.args.code 2 (omega arith))
     (held-duty-code d.off d.on c.args.code)

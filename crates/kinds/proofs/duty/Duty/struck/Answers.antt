@@ -14,18 +14,18 @@ returns-in-1 c = rw c.in-1.is (only-on-struck c.args.self c.if-self-2.true (not-
 pub returns-in-0-2 : goal.returns-in-0-2
 returns-in-0-2 c = rw c.in-0.is (strikes-off c.args.self (λ _. not-false _ c.if-not-self.false))
 
-pub returns-in-0-2·2 : goal.returns-in-0-2·2
-returns-in-0-2·2 c =
+pub returns-in-0-2-2 : goal.returns-in-0-2-2
+returns-in-0-2-2 c =
     let d = c.args.self in rw c.in-0.is (strikes-off d (λ t. absurd (both_ways d.off c.if-self.false t)))
 
 pub returns-in-1-2 : goal.returns-in-1-2
 returns-in-1-2 c = rw c.in-1.is (strikes-on c.args.self (λ _. not-false _ c.if-not-self-2.false))
 
-pub returns-in-1-2·2 : goal.returns-in-1-2·2
-returns-in-1-2·2 c =
+pub returns-in-1-2-2 : goal.returns-in-1-2-2
+returns-in-1-2-2 c =
     let d = c.args.self in rw c.in-1.is (strikes-on d (λ t. absurd (both_ways d.on c.if-self-2.false t)))
 
-pub returns-in-default : goal.returns-in-default
-returns-in-default c =
+pub returns-in_default : goal.returns-in_default
+returns-in_default c =
     let d = c.args.self in
     strikes-unknown duties duty-code c.args.code d (sized d.off d.on) (le-ltb c.args.code 2 (omega arith))

@@ -3,10 +3,10 @@ use Rattle.kinds.proofs.Telling.{weights-of}
 use Rattle.kinds.specs.DutyFacts.{lightest-on, lightest-off, heaviest-on, off-weightless}
 use Rattle.kinds.proofs.duty.Duty.weights.Goals as goal
 
-pub returns-in-default-false : goal.returns-in-default-false
-returns-in-default-false c =
+pub returns-in_default-false : goal.returns-in_default-false
+returns-in_default-false c =
     let d = c.args.self in
-    let none = off-weightless d.off d.on c.in-default-false.is-1 in
+    let none = off-weightless d.off d.on c.in_default-false.is-1 in
     weights-of (duties d) 0 0 none.0 none.1
 
 pub returns-in-true-true : goal.returns-in-true-true

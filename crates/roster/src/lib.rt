@@ -4,7 +4,7 @@ pub mod finding;
 mod stretches;
 
 ghost use Rattle.ledger.specs.Ledgers.{ledger};
-ghost use Rattle.check.specs.Findings.{Checks};
+ghost use Rattle.roster.specs.Findings.{Checks};
 
 use crate::finding::Finding;
 use entry::refusal::Refusal;
@@ -18,7 +18,7 @@ pub fn check<'r, E: Entry>(
     book: &Book,
     roster: &'r [u8],
 ) -> Result<Finding<'r>, Refusal>
-    ensures { Checks (ledger top known meaning entries.now book.now) roster.now result }
+    ensures { Checks (ledger E.top E.known E.meaning entries.now book.now) roster.now result }
 {
     let days = day_count(entries)?;
     if let Some(number) = faults::past_days(book.rules(), days) {

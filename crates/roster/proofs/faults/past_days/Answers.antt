@@ -1,11 +1,11 @@
 use Rattle.std.proofs.Common.{◌≤◌, arith, rules}
 use Rattle.ledger.specs.Ledgers.{ends-within}
 use Rattle.ledger.specs.Rules.{no-rule}
-use Rattle.check.proofs.Firsts.{slice-more, slice-here, slice-nowhere}
-use Rattle.check.proofs.faults.past_days.Goals as goal
+use Rattle.roster.proofs.Firsts.{slice-more, slice-here, slice-nowhere}
+use Rattle.roster.proofs.faults.past_days.Goals as goal
 
-pub overflow-add-number : goal.overflow-add-number
-overflow-add-number c =
+pub overflow_add-number : goal.overflow_add-number
+overflow_add-number c =
     let place = c.loop-rule.invariant.1 in
     let few = c.requires in
     let small : c.loop-rule.number ≤ 513 = omega arith in
@@ -15,13 +15,13 @@ pub loop-rule-preserved : goal.loop-rule-preserved
 loop-rule-preserved c =
     let at = c.loop-rule in
     slice-more (ends-within c.args.days) c.args.rules.now at.rule-index at.number at.invariant no-rule
-    c.loop-rule-test.true c.if-not-ends-within.ensures
+    c.loop-rule-test.true c.if-not-ends_within.ensures
 
-pub returns-then-not-ends-within : goal.returns-then-not-ends-within
-returns-then-not-ends-within c =
+pub returns-then-not-ends_within : goal.returns-then-not-ends_within
+returns-then-not-ends_within c =
     let at = c.loop-rule in
     slice-here (ends-within c.args.days) c.args.rules.now at.rule-index at.number at.invariant no-rule
-    c.loop-rule-test.true c.if-not-ends-within.ensures
+    c.loop-rule-test.true c.if-not-ends_within.ensures
 
 pub returns : goal.returns
 returns c =

@@ -3,19 +3,19 @@ use Rattle.std.specs.List.{zip}
 use Rattle.std.proofs.lemmas.List.{length-map}
 use Rattle.std.proofs.lemmas.Slice.Zip.{either_empty_from_Zip, length-zip}
 use Rattle.ledger.specs.Rosters.{holds-its-code}
-use Rattle.check.proofs.Firsts.{Passing, failing-nowhere}
-use Rattle.check.proofs.Pairs.{zipped-end}
-use Rattle.check.proofs.faults.not_held.Goals as goal
+use Rattle.roster.proofs.Firsts.{Passing, failing-nowhere}
+use Rattle.roster.proofs.Pairs.{zipped-end}
+use Rattle.roster.proofs.faults.not_held.Goals as goal
 
-pub overflow-add-day : goal.overflow-add-day
-overflow-add-day g c =
+pub overflow_add-day : goal.overflow_add-day
+overflow_add-day g c =
     let f = g.E.Entry.meaning in
     let entries = c.args.entries.now in
     let days = map f entries in
     let long = length-zip days c.args.roster.now in
     let as_many = length-map entries f in
     let few = c.requires in
-    let p = c.loop-entry.invariant.2.1 in
+    let p = c.loop-entry.invariant.1 in
     let small : c.loop-entry.day ≤ 129 = omega arith in
     search rules
 
@@ -27,4 +27,4 @@ returns g c =
     let empty = either_empty_from_Zip c.loop-entry.entry-iterator next.new.self next.result
     c.in-None.is next.ensures.steps in
     let day = c.loop-entry.day in
-    failing-nowhere holds-its-code all day (subst (Passing holds-its-code all day) (zipped-end f _ _ empty) c.loop-entry.invariant.2)
+    failing-nowhere holds-its-code all day (subst (Passing holds-its-code all day) (zipped-end f _ _ empty) c.loop-entry.invariant)

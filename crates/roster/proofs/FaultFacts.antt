@@ -10,7 +10,7 @@ use Rattle.ledger.specs.declared.rule.Rule.{Rule}
 use Rattle.ledger.specs.Ledgers.{Ledger, failing, ends-within}
 use Rattle.ledger.specs.Rosters.{Roster, stretch, stretch-weight, holds-its-code, keeps, Lawful}
 use Rattle.ledger.specs.Rules.{no-rule, numbered, Bounds}
-use Rattle.check.specs.Findings.{lawful, not-held, broken, first-fault, verdict, First-failing}
+use Rattle.roster.specs.Findings.{lawful, not-held, broken, first-fault, verdict, First-failing}
 
 some_is : (b : Bool) (m n : ℕ) → cond b (Some m) None ≡ Some n → (b ≡ true) × (m ≡ n)
 some_is true m n e = (refl, ap (λ o. unwrap_or o 0) e)

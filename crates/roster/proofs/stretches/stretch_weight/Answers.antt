@@ -1,10 +1,10 @@
 use Rattle.std.proofs.Common.{◌-◌, length, ap, arith}
 use Rattle.std.proofs.lemmas.List.Edits.{length-between}
-use Rattle.check.proofs.Pairs.{stretch-weighs}
-use Rattle.check.proofs.stretches.stretch_weight.Goals as goal
+use Rattle.roster.proofs.Pairs.{stretch-weighs}
+use Rattle.roster.proofs.stretches.stretch_weight.Goals as goal
 
-pub weight-of-requires : goal.weight-of-requires
-weight-of-requires g c =
+pub weight_of-requires : goal.weight_of-requires
+weight_of-requires g c =
     let rule = c.args.rule in
     let few = c.requires.0 in
     let to = c.requires.4 in
@@ -15,4 +15,4 @@ returns g c =
     let entries = c.stretch in
     let codes = c.stretch-2 in
     stretch-weighs g.E.Entry.meaning c.args.rule c.args.entries.now entries.result.now c.args.roster.now
-    codes.result.now c.weight-of.result entries.ensures codes.ensures c.weight-of.ensures
+    codes.result.now c.weight_of.result entries.ensures codes.ensures c.weight_of.ensures

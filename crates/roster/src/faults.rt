@@ -3,7 +3,7 @@ ghost use Rattle.std.specs.List.{zip};
 ghost use Rattle.ledger.specs.Ledgers.{rules-of, ledger, failing, ends-within};
 ghost use Rattle.ledger.specs.Rosters.{holds-its-code, keeps};
 ghost use Rattle.ledger.specs.Rules.{Bounds};
-ghost use Rattle.check.specs.Findings.{shown, verdict, Found};
+ghost use Rattle.roster.specs.Findings.{shown, verdict, Found};
 
 use crate::finding::Finding;
 use crate::stretches::{keeps, stretch};
@@ -35,7 +35,7 @@ fn ends_within(days: u32, rule: Rule) -> bool
 // The first day whose entry does not hold its code.
 fn not_held<E: Entry>(entries: &[E], roster: &[u8]) -> Option<u32>
     requires { length entries.now ≤ 128 }
-    ensures { result ≡ failing holds-its-code (zip (map meaning entries.now) roster.now) }
+    ensures { result ≡ failing holds-its-code (zip (map E.meaning entries.now) roster.now) }
 {
     let mut day = 1;
     for (entry, code) in entries.iter().zip(roster.iter()) {
@@ -50,7 +50,7 @@ fn not_held<E: Entry>(entries: &[E], roster: &[u8]) -> Option<u32>
 // The smallest number of a broken rule.
 fn broken<E: Entry>(entries: &[E], rules: &[Rule], roster: &[u8]) -> Option<u32>
     requires { (length entries.now ≤ 128) × (length roster.now ≡ length entries.now) × (length rules.now ≤ 512) × Bounds rules.now × (failing (ends-within (length entries.now)) rules.now ≡ None) }
-    ensures { result ≡ failing (keeps (map meaning entries.now) roster.now) rules.now }
+    ensures { result ≡ failing (keeps (map E.meaning entries.now) roster.now) rules.now }
 {
     let mut number = 1;
     for rule in rules {
@@ -65,8 +65,8 @@ fn broken<E: Entry>(entries: &[E], rules: &[Rule], roster: &[u8]) -> Option<u32>
 // The first fault of a roster that is as long as the plan.
 pub(crate) fn first_fault<'r, E: Entry>(entries: &[E], book: &Book, roster: &'r [u8]) -> Finding<'r>
     requires { (length entries.now ≤ 128) × (length roster.now ≡ length entries.now) × (failing (ends-within (length entries.now)) (rules-of book.now) ≡ None) }
-    ensures shown { shown result ≡ verdict (ledger top known meaning entries.now book.now) roster.now }
-    ensures found { Found (ledger top known meaning entries.now book.now) roster.now (Ok result) }
+    ensures shown { shown result ≡ verdict (ledger E.top E.known E.meaning entries.now book.now) roster.now }
+    ensures found { Found (ledger E.top E.known E.meaning entries.now book.now) roster.now (Ok result) }
 {
     if let Some(day) = not_held(entries, roster) {
         return Finding::NotHeld { day };

@@ -2,7 +2,7 @@ use Rattle.std.proofs.Common.{◌≡◌, ◌+◌, ◌*◌, ◌≤◌, map, lengt
 use Rattle.std.specs.Iterator.Adapters.{zip_first, zip_second}
 use Rattle.std.specs.Slice.Iter.{iter_rest}
 use Rattle.ledger.specs.Rosters.{weight-of}
-use Rattle.check.proofs.stretches.weight_of.Given as goal
+use Rattle.roster.proofs.stretches.weight_of.Given as goal
 
 -- the sum and the weight of the days to come are the weight of all, and a day weighs 63 at the most
 abbrev pub invariant-loop-entry : goal.invariant-loop-entry
@@ -10,6 +10,7 @@ invariant-loop-entry g l =
     let f = g.E.Entry.meaning in
     let entries = iter_rest (zip_first l.entry-iterator) in
     let codes = iter_rest (zip_second l.entry-iterator) in
-    (goal.iterator-loop-entry g).can_next l.entry-iterator × (goal.iterator-loop-entry g).is_finite l.entry-iterator
-    × (l.sum + weight-of (map f entries) codes ≡ weight-of (map f l.entries) l.roster)
-    × (l.sum + 63 * length entries ≤ 63 * length l.entries)
+    record {
+      whole : l.sum + weight-of (map f entries) codes ≡ weight-of (map f l.entries) l.roster;
+      light : l.sum + 63 * length entries ≤ 63 * length l.entries;
+    }

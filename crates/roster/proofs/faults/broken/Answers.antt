@@ -3,12 +3,12 @@ use Rattle.std.proofs.ByRecursion.{All-get_or}
 use Rattle.ledger.specs.Ledgers.{ends-within}
 use Rattle.ledger.specs.Rosters.{keeps}
 use Rattle.ledger.specs.Rules.{no-rule}
-use Rattle.check.proofs.FaultFacts.{none-failing}
-use Rattle.check.proofs.Firsts.{slice-more, slice-here, slice-nowhere}
-use Rattle.check.proofs.faults.broken.Goals as goal
+use Rattle.roster.proofs.FaultFacts.{none-failing}
+use Rattle.roster.proofs.Firsts.{slice-more, slice-here, slice-nowhere}
+use Rattle.roster.proofs.faults.broken.Goals as goal
 
-pub keeps-requires-in-loop-rule : goal.keeps-requires-in-loop-rule
-keeps-requires-in-loop-rule g c =
+pub keeps-requires : goal.keeps-requires
+keeps-requires g c =
     let rules = c.args.rules.now in
     let i = c.loop-rule.rule-index in
     let lt = c.loop-rule-test.true in

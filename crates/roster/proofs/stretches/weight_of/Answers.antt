@@ -1,8 +1,8 @@
 use Rattle.std.proofs.Common.{◌≡◌, length, ap, ◌∙◌, arith}
 use Rattle.std.proofs.lemmas.Slice.Zip.{Zip-more, either_empty_from_Zip}
 use Rattle.entry.specs.Cells.{weigh}
-use Rattle.check.proofs.Pairs.{weight-cons, weight-end}
-use Rattle.check.proofs.stretches.weight_of.Goals as goal
+use Rattle.roster.proofs.Pairs.{weight-cons, weight-end}
+use Rattle.roster.proofs.stretches.weight_of.Goals as goal
 
 pub loop-entry-preserved : goal.loop-entry-preserved
 loop-entry-preserved g c =
@@ -18,7 +18,7 @@ loop-entry-preserved g c =
     let top = g.met.E.Entry.range.1 in
     let long = ap length rests.0 in
     let inv = c.loop-entry.invariant in
-    ((tt, tt), (tt, tt), omega (arith, inv.2, more, day), omega (arith, inv.3, long, light, top, day))
+    record { whole = omega (arith, inv.whole, more, day); light = omega (arith, inv.light, long, light, top, day) }
 
 pub returns : goal.returns
 returns g c =
@@ -26,4 +26,4 @@ returns g c =
     let next = c.next in
     let empty = either_empty_from_Zip c.loop-entry.entry-iterator next.new.self next.result
     c.in-None.is next.ensures.steps in
-    omega (arith, c.loop-entry.invariant.2, weight-end f _ _ empty)
+    omega (arith, c.loop-entry.invariant.whole, weight-end f _ _ empty)

@@ -1,7 +1,7 @@
 use Rattle.std.proofs.Common.{map, drop}
 use Rattle.ledger.specs.Rosters.{keeps}
-use Rattle.check.proofs.Firsts.{Passing}
-use Rattle.check.proofs.faults.broken.Given as goal
+use Rattle.roster.proofs.Firsts.{Passing}
+use Rattle.roster.proofs.faults.broken.Given as goal
 
 abbrev pub invariant-loop-rule : goal.invariant-loop-rule
 invariant-loop-rule g l =

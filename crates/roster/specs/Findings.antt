@@ -7,8 +7,8 @@ use Rattle.ledger.specs.Ledgers.{Ledger, too-many-days, failing, naming-one, rul
 use Rattle.ledger.specs.Rosters as rosters
 use Rattle.ledger.specs.Rosters.{Roster, stretch, holds-its-code, keeps}
 use Rattle.ledger.specs.Rules.{numbered}
-use Rattle.check.specs.declared.finding.Finding.{Finding}
-use Rattle.check.specs.declared.finding.Finding.TheVariants.{Lawful, NotHeld, Broken}
+use Rattle.roster.specs.declared.finding.Finding.{Finding}
+use Rattle.roster.specs.declared.finding.Finding.TheVariants.{Lawful, NotHeld, Broken}
 
 -- the rows that can fit a check, in the order of the table
 abbrev pub check-rows : Ledger → Roster → Rows
