@@ -5,7 +5,7 @@ use Rattle.entry.specs.Cells.{Meaning, held}
 use Rattle.ledger.specs.Ledgers.{Ledger}
 use Rattle.ledger.specs.Rosters.{Roster}
 use Rattle.ledger.specs.Rules.{made, ended}
-use Rattle.roster.specs.Findings.{Verdict, lawful, not-held, broken, verdict}
+use Rattle.roster.specs.Findings.{Verdict, lawful, not_held, broken, verdict}
 
 abbrev pub with_each : List ℕ → List Roster → List Roster
 with_each [] later = []
@@ -18,11 +18,11 @@ rosters (m ∷ days) = with_each (filter (held m) (range_with_len 0 64)) (roster
 
 abbrev is_lawful : Verdict → Bool
 is_lawful lawful = true
-is_lawful (not-held day) = false
+is_lawful (not_held day) = false
 is_lawful (broken number first last codes) = false
 
-abbrev pub lawful-rosters : Ledger → List Roster
-lawful-rosters l = filter (λ roster. is_lawful (verdict l roster)) (rosters l.days)
+abbrev pub lawful_rosters : Ledger → List Roster
+lawful_rosters l = filter (λ roster. is_lawful (verdict l roster)) (rosters l.days)
 
 -- a day on or off duty
 abbrev pub either : Meaning

@@ -1,13 +1,13 @@
 -- What a set's word says of its members, and what the set operators give. Only this crate's own code cites it.
-use Rattle.std.specs.Prelude.{◌≡◌, ℕ, ◌<◌, true, false, not, ◌&&◌, ◌||◌, [], length, Decides, ◌==◌, count_ones, nat_lt}
+use Rattle.std.specs.Prelude.{◌≡◌, ℕ, ◌<◌, true, false, not, ◌&&◌, ◌||◌, [], length, IsTrue, ◌↔◌, ◌==◌, count_ones, nat_lt}
 use Rattle.codes.specs.declared.set.CodeSet.{CodeSet}
 use Rattle.codes.specs.Members.{bit, member, members}
 
 -- what the word of a set says of its members
 pub record WordOf (s : CodeSet) (word : ℕ) : Type 0 where
   pub digits : (c : ℕ) → member s c ≡ (nat_lt c 64 && bit word c)
-  pub none : Decides (word == 0) ((c : ℕ) → member s c ≡ false)
-  pub nil : Decides (word == 0) (members s ≡ [])
+  pub none : IsTrue (word == 0) ↔ ((c : ℕ) → member s c ≡ false)
+  pub nil : IsTrue (word == 0) ↔ (members s ≡ [])
   pub count : count_ones word ≡ length (members s)
 
 -- r has the codes of s and those of t; where those of t are all in s, it is s

@@ -1,4 +1,4 @@
-ghost use Rattle.std.specs.Prelude.{◌≡◌, ℕ, ◌<◌, ◌≤◌, true, false, not, ◌&&◌, ◌||◌, [], ◌∷◌, length, Decides, MatchOption, ◌==◌, nat_lt};
+ghost use Rattle.std.specs.Prelude.{◌≡◌, ℕ, ◌<◌, ◌≤◌, true, false, not, ◌&&◌, ◌||◌, [], ◌∷◌, length, IsTrue, ◌↔◌, MatchOption, ◌==◌, nat_lt};
 ghost use Rattle.std.specs.List.{slice_get};
 ghost use Rattle.codes.specs.Coming.{coming};
 ghost use Rattle.codes.specs.Members.{member, members, Listing};
@@ -67,8 +67,8 @@ impl CodeSet {
     }
 
     pub fn is_empty(self) -> bool
-        ensures none { Decides result ((c : ℕ) → member self c ≡ false) }
-        ensures nil { Decides result (members self ≡ []) }
+        ensures none { IsTrue result ↔ ((c : ℕ) → member self c ≡ false) }
+        ensures nil { IsTrue result ↔ (members self ≡ []) }
     {
         self.bits() == 0
     }

@@ -7,7 +7,7 @@ use Rattle.std.proofs.lemmas.List.{get_or_append_left}
 use Rattle.std.proofs.lemmas.Bool.Decides.{nat_tests}
 use Rattle.ledger.specs.declared.rule.Rule.{Rule}
 use Rattle.ledger.specs.Ledgers.{ranging}
-use Rattle.ledger.specs.Rules.{made, windows, no-rule, numbered, stands, ended, withdrawn}
+use Rattle.ledger.specs.Rules.{made, windows, no_rule, numbered, stands, ended, withdrawn}
 use Rattle.course.specs.Runs.{given_by, Fits}
 use Rattle.course.proofs.Lists.{at_set}
 
@@ -18,10 +18,10 @@ windows-fit days top width least most wide order can =
     let count = days + 1 - width in
     let rule : ℕ → Rule = λ first. made first (first + width - 1) least most in
     let long = length-map-range_with_len rule 1 count in
-    All-from_get_or (Fits days top) (windows count width least most) no-rule
+    All-from_get_or (Fits days top) (windows count width least most) no_rule
     (λ i h.
     let back : width ≡ i + 1 + width - 1 - (i + 1) + 1 = omega arith in
-    subst (Fits days top) (sym (get_or-map-range_with_len rule 1 count i (i + 1) no-rule (omega arith) (omega arith)))
+    subst (Fits days top) (sym (get_or-map-range_with_len rule 1 count i (i + 1) no_rule (omega arith) (omega arith)))
     (λ _. (omega arith, omega arith, omega arith, order, subst (λ n. most ≤ top * n) back can)))
 
 -- the numbers that a slide gives out
@@ -44,7 +44,7 @@ module _ (rules : List Rule) where
   stands-append new number le off =
       let long = length-append rules new in
       let kept : 0 < number → numbered (rules ++ new) number ≡ numbered rules number =
-      λ from. get_or_append_left rules new no-rule (number - 1) (omega arith) in
+      λ from. get_or_append_left rules new no_rule (number - 1) (omega arith) in
       grind (arith, nat_tests)
 
   pub stands-withdrawn : (n number : ℕ) → stands rules number ≡ false → stands (withdrawn rules n) number ≡ false
@@ -52,5 +52,5 @@ module _ (rules : List Rule) where
       let end = ended (numbered rules n) in
       let long = length-set rules (n - 1) end in
       let kept : (numbered rules number).in_force ≡ false → (numbered (withdrawn rules n) number).in_force ≡ false =
-      at_set (λ r. r.in_force ≡ false) rules (n - 1) (number - 1) end no-rule (λ _. refl) in
+      at_set (λ r. r.in_force ≡ false) rules (n - 1) (number - 1) end no_rule (λ _. refl) in
       grind (arith, nat_tests)

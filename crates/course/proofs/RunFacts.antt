@@ -4,9 +4,9 @@ use Rattle.std.specs.List.{range_with_len, ContainsAt as Has, AllByRecursion as 
 use Rattle.std.proofs.ByRecursion.{All-weaker, All-map, all_has_itself}
 use Rattle.std.proofs.lemmas.List.{at_drop_more}
 use Rattle.entry.specs.Cells.{Meaning}
-use Rattle.ledger.specs.declared.book.Book.{Book}
+use Rattle.ledger.specs.Rules.{Book}
 use Rattle.ledger.specs.declared.call.Call.{Call}
-use Rattle.ledger.specs.Ledgers.{Ledger, ledger, after, after-all}
+use Rattle.ledger.specs.Ledgers.{Ledger, ledger, after, after_all}
 use Rattle.course.specs.Runs.{Whole, Good, Starts, Run, given, taken}
 use Rattle.course.proofs.Lists.{counting-on}
 use Rattle.course.proofs.RuleFacts.{none-given}
@@ -14,13 +14,13 @@ use Rattle.course.proofs.Steps.{step_of}
 
 -- a call that is left out does nothing
 left_out : (l : Ledger) (call : Call) (calls : List Call) (b : Bool) → (b ≡ true) ⊎ (after l call ≡ l)
-    → after-all l (cond b (call ∷ calls) calls) ≡ after-all (after l call) calls
+    → after_all l (cond b (call ∷ calls) calls) ≡ after_all (after l call) calls
 left_out l call calls true which = refl
 left_out l call calls false (inl t) = cc
-left_out l call calls false (inr e) = ap (λ m. after-all m calls) (sym e)
+left_out l call calls false (inr e) = ap (λ m. after_all m calls) (sym e)
 
 -- one call after another
-pub run_of : (l : Ledger) (calls : List Call) → Run l calls (after-all l calls)
+pub run_of : (l : Ledger) (calls : List Call) → Run l calls (after_all l calls)
 run_of l [] = record {
   after = refl;
   idle = refl;
@@ -35,7 +35,7 @@ run_of l [] = record {
 }
 run_of l (call ∷ calls) =
     let m = after l call in
-    let end = after-all m calls in
+    let end = after_all m calls in
     let s = step_of l call in
     let r = run_of m calls in
     let a = length l.rules in
@@ -59,9 +59,9 @@ run_of l (call ∷ calls) =
 
 -- the call at a place in a list of calls, and then the rest
 pub call-worked : (l m : Ledger) (calls : List Call) (i : ℕ) (d : Call) → i < length calls
-    → m ≡ after l (get_or calls i d) → after-all m (drop (i + 1) calls) ≡ after-all l (drop i calls)
+    → m ≡ after l (get_or calls i d) → after_all m (drop (i + 1) calls) ≡ after_all l (drop i calls)
 call-worked l m calls i d h e =
-    ap (λ x. after-all x (drop (i + 1) calls)) e ∙ sym (at_drop_more (after-all l) calls i d h)
+    ap (λ x. after_all x (drop (i + 1) calls)) e ∙ sym (at_drop_more (after_all l) calls i d h)
 
 -- a start with entries of a kind is good
 pub starts-good : {X : Type 0} (top : ℕ) (known : ℕ → Bool) (meaning : X → Meaning) → ((x : X) → Whole (meaning x))

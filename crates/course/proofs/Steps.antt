@@ -13,9 +13,9 @@ use Rattle.entry.proofs.CellFacts.{weigh-marked}
 use Rattle.ledger.specs.declared.rule.Rule as Declared
 use Rattle.ledger.specs.declared.call.Call.{Call}
 use Rattle.ledger.specs.declared.call.Call.TheVariants.{Rule, Slide, Withdraw, Strike, Grant, Settle}
-use Rattle.ledger.specs.Ledgers.{Ledger, Answer, done, settled, day-of, window-count, no-such-day, rows, answer, with-rules, with-day, worked, reply, after}
+use Rattle.ledger.specs.Ledgers.{Ledger, Answer, done, settled, day_of, window_count, no_such_day, rows, answer, with_rules, with_day, worked, reply, after}
 use Rattle.ledger.specs.Rules.{made, windows, numbered, stands, ended, withdrawn}
-use Rattle.course.specs.Runs.{Edits, given_by, is-settle, Holds, Whole, Fits, Good}
+use Rattle.course.specs.Runs.{Edits, given_by, is_settle, Holds, Whole, Fits, Good}
 use Rattle.course.proofs.Lists.{at_set}
 use Rattle.course.proofs.RuleFacts.{windows-fit, given-range, none-given, stands-append, stands-withdrawn}
 use Rattle.course.proofs.DayFacts.{marked-whole, struck-holds, granted-holds}
@@ -23,11 +23,11 @@ use Rattle.course.proofs.DayFacts.{marked-whole, struck-holds, granted-holds}
 -- a call on the ledger l that answers r and leaves m
 pub record Step (l : Ledger) (call : Call) (r : Result Answer Row) (m : Ledger) : Type 0 where
   -- it is no refusal and no settle, or it changes nothing
-  pub idle : ((is_ok r && not (is-settle call)) ≡ true) ⊎ (m ≡ l)
+  pub idle : ((is_ok r && not (is_settle call)) ≡ true) ⊎ (m ≡ l)
   pub kind : m.kind ≡ l.kind
   pub days : length m.days ≡ length l.days
-  pub weights : (day code : ℕ) → weigh (day-of m day) code ≡ weigh (day-of l day) code
-  pub others : (day : ℕ) → 0 < day → (Edits call day → ⊥) → day-of m day ≡ day-of l day
+  pub weights : (day code : ℕ) → weigh (day_of m day) code ≡ weigh (day_of l day) code
+  pub others : (day : ℕ) → 0 < day → (Edits call day → ⊥) → day_of m day ≡ day_of l day
   pub grows : length l.rules ≤ length m.rules
   pub numbers : given_by r ≡ range_with_len (length l.rules + 1) (length m.rules - length l.rules)
   pub withdrawn : (number : ℕ) → number ≤ length l.rules → stands l.rules number ≡ false
@@ -44,12 +44,12 @@ module _ (l : Ledger) where
 
   -- a call that makes these the rules
   ruled : (call : Call) (r : Result Answer Row) (rules : List Declared.Rule)
-      → ((is_ok r && not (is-settle call)) ≡ true) ⊎ (with-rules l rules ≡ l)
+      → ((is_ok r && not (is_settle call)) ≡ true) ⊎ (with_rules l rules ≡ l)
       → length l.rules ≤ length rules
       → given_by r ≡ range_with_len (length l.rules + 1) (length rules - length l.rules)
       → ((number : ℕ) → number ≤ length l.rules → stands l.rules number ≡ false → stands rules number ≡ false)
       → (Fit l.rules → Fit rules)
-      → Step l call r (with-rules l rules)
+      → Step l call r (with_rules l rules)
   ruled call r rules idle grows numbers off fit = record {
     idle = idle;
     kind = refl;
@@ -69,9 +69,9 @@ module _ (l : Ledger) where
       (λ number le off. off) (λ fit. fit)
 
   -- a call that adds rules
-  added : (call : Call) (a : Answer) (new : List Declared.Rule) → not (is-settle call) ≡ true
+  added : (call : Call) (a : Answer) (new : List Declared.Rule) → not (is_settle call) ≡ true
       → given_by (Ok a) ≡ range_with_len (length l.rules + 1) (length new) → Fit new
-      → Step l call (Ok a) (with-rules l (l.rules ++ new))
+      → Step l call (Ok a) (with_rules l (l.rules ++ new))
   added call a new real given fit =
       let old = l.rules in
       let long = length-append old new in
@@ -80,7 +80,7 @@ module _ (l : Ledger) where
       (stands-append old new) (λ fits. All-append _ old new fits fit)
 
   -- a withdrawal
-  ends : (number : ℕ) → Step l (Withdraw number) (Ok done) (with-rules l (withdrawn l.rules number))
+  ends : (number : ℕ) → Step l (Withdraw number) (Ok done) (with_rules l (withdrawn l.rules number))
   ends number =
       let old = l.rules in
       let new = withdrawn old number in
@@ -90,14 +90,14 @@ module _ (l : Ledger) where
       (λ k _. stands-withdrawn old number k) (All-set _ old (number - 1) end (λ on. grind arith))
 
   -- a strike or a grant
-  edited : (call : Call) (day code : ℕ) (holds : Bool) → (let m = day-of l day in let new = marked m code holds in
-      not (is-settle call) ≡ true → ((other : ℕ) → day ≡ other → Edits call other) → no-such-day l day ≡ false
+  edited : (call : Call) (day code : ℕ) (holds : Bool) → (let m = day_of l day in let new = marked m code holds in
+      not (is_settle call) ≡ true → ((other : ℕ) → day ≡ other → Edits call other) → no_such_day l day ≡ false
       → not (gapless new) ≡ false → (Holds m → Holds new)
-      → Step l call (Ok done) (with-day l day new))
+      → Step l call (Ok done) (with_day l day new))
   edited call day code holds real names such whole keeps =
       let days = l.days in
       let i = day - 1 in
-      let m = day-of l day in
+      let m = day_of l day in
       let new = marked m code holds in
       let from : 0 < day = grind (arith, nat_tests) in
       let to : i < length days = grind (arith, nat_tests) in
@@ -107,7 +107,7 @@ module _ (l : Ledger) where
         kind = refl;
         days = long;
         weights = λ other c.
-            at_set (λ x. weigh x c ≡ weigh (day-of l other) c) days i (other - 1) new []
+            at_set (λ x. weigh x c ≡ weigh (day_of l other) c) days i (other - 1) new []
             (λ e. weigh-marked m code holds c ∙ ap (λ k. weigh (get_or days k []) c) (sym e)) refl;
         others = λ other after apart. get_or-set_other days i (other - 1) new [] (λ e. apart (names other (omega arith)));
         grows = omega arith;
@@ -129,7 +129,7 @@ module _ (l : Ledger) where
   works (Rule first last least most) clear =
       added (Rule first last least most) _ (made first last least most ∷ []) refl refl (λ _. grind (arith, nat_tests), tt)
   works (Slide width least most) clear =
-      let count = window-count l width in
+      let count = window_count l width in
       let new = windows count width least most in
       let given = given-range (length l.rules) count in
       let long : count ≡ length new = sym (length-map-range_with_len _ 1 count) in
@@ -138,14 +138,14 @@ module _ (l : Ledger) where
       (grind (arith, nat_tests)) (grind (arith, nat_tests)) (grind (arith, nat_tests)))
   works (Withdraw number) clear = ends number
   works (Strike day code) clear =
-      let m = day-of l day in
-      let such : no-such-day l day ≡ false = clear.1.0 in
+      let m = day_of l day in
+      let such : no_such_day l day ≡ false = clear.1.0 in
       let more : only m code ≡ false = clear.1.1.1.0 in
       let whole : not (gapless (struck m code)) ≡ false = clear.1.1.1.1.0 in
       edited (Strike day code) day code false refl (λ _ e. e) such whole (struck-holds m code more)
   works (Grant day code) clear =
-      let m = day-of l day in
-      let such : no-such-day l day ≡ false = clear.1.0 in
+      let m = day_of l day in
+      let such : no_such_day l day ≡ false = clear.1.0 in
       let whole : not (gapless (granted m code)) ≡ false = clear.1.1.1.0 in
       edited (Grant day code) day code true refl (λ _ e. e) such whole (granted-holds m code)
   works Settle clear = same Settle (Ok settled) refl

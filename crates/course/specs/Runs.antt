@@ -1,12 +1,12 @@
 -- What a list of calls makes of a plan and what it keeps, whichever of the calls are refused.
-use Rattle.std.specs.Prelude.{◌≡◌, ℕ, ◌+◌, ◌-◌, ◌<◌, ◌≤◌, Bool, true, false, cond, not, ◌&&◌, List, [], ◌∷◌, ◌++◌, length, is_ok, Some, None, Ok, Err, Result}
+use Rattle.std.specs.Prelude.{◌≡◌, ℕ, ◌+◌, ◌-◌, ◌<◌, ◌≤◌, Bool, true, false, if◌then◌else◌, not, ◌&&◌, List, [], ◌∷◌, ◌++◌, length, is_ok, Some, None, Ok, Err, Result}
 use Rattle.std.specs.List.{range_with_len, AllByRecursion as All}
 use Rattle.entry.specs.Cells.{Meaning, held, weigh, NoGap, Sized}
 use Rattle.entry.specs.Refusals.{Row}
 use Rattle.ledger.specs.declared.rule.Rule as Declared
 use Rattle.ledger.specs.declared.call.Call.{Call}
 use Rattle.ledger.specs.declared.call.Call.TheVariants.{Rule, Slide, Withdraw, Strike, Grant, Settle}
-use Rattle.ledger.specs.Ledgers.{Ledger, Answer, numbered, ranging, done, settled, day-of, reply, after, after-all}
+use Rattle.ledger.specs.Ledgers.{Ledger, Answer, numbered, ranging, done, settled, day_of, reply, after, after_all}
 use Rattle.ledger.specs.Rules.{stands, Within}
 
 -- the call edits the entry of the day
@@ -32,19 +32,19 @@ abbrev pub given : Ledger → List Call → List ℕ
 given l [] = []
 given l (call ∷ calls) = given_by (reply l call) ++ given (after l call) calls
 
-abbrev pub is-settle : Call → Bool
-is-settle Settle = true
-is-settle (Rule first last least most) = false
-is-settle (Slide width least most) = false
-is-settle (Withdraw number) = false
-is-settle (Strike day code) = false
-is-settle (Grant day code) = false
+abbrev pub is_settle : Call → Bool
+is_settle Settle = true
+is_settle (Rule first last least most) = false
+is_settle (Slide width least most) = false
+is_settle (Withdraw number) = false
+is_settle (Strike day code) = false
+is_settle (Grant day code) = false
 
 -- the calls that no row refuses, without the settles
 abbrev pub taken : Ledger → List Call → List Call
 taken l [] = []
 taken l (call ∷ calls) =
-    cond (is_ok (reply l call) && not (is-settle call)) (call ∷ taken (after l call) calls) (taken (after l call) calls)
+    if is_ok (reply l call) && not (is_settle call) then call ∷ taken (after l call) calls else taken (after l call) calls
 
 -- a code is held
 abbrev pub Holds : Meaning → Type 0
@@ -71,14 +71,14 @@ Starts l = (length l.days ≤ 128) × All Holds l.days × (l.rules ≡ [])
 
 -- the calls make m of the ledger l
 pub record Run (l : Ledger) (calls : List Call) (m : Ledger) : Type 0 where
-  pub after : m ≡ after-all l calls
+  pub after : m ≡ after_all l calls
   -- refused calls and settles change nothing: the others alone lead to the same ledger
-  pub idle : after-all l (taken l calls) ≡ m
+  pub idle : after_all l (taken l calls) ≡ m
   pub kind : m.kind ≡ l.kind
   pub days : length m.days ≡ length l.days
   -- no call changes a weight, nor the entry of a day that no strike and no grant names
-  pub weights : (day code : ℕ) → weigh (day-of m day) code ≡ weigh (day-of l day) code
-  pub others : (day : ℕ) → 0 < day → All (λ call. Edits call day → ⊥) calls → day-of m day ≡ day-of l day
+  pub weights : (day code : ℕ) → weigh (day_of m day) code ≡ weigh (day_of l day) code
+  pub others : (day : ℕ) → 0 < day → All (λ call. Edits call day → ⊥) calls → day_of m day ≡ day_of l day
   -- the numbers given out follow one another from the first that was free, so none is given out twice
   pub grows : length l.rules ≤ length m.rules
   pub numbers : given l calls ≡ range_with_len (length l.rules + 1) (length m.rules - length l.rules)

@@ -10,16 +10,16 @@ use ledger::days;
 
 // Works the calls one after another. A refused call changes nothing, and the next follows.
 pub fn replay<E: Entry>(entries: &mut [E], book: &mut Book, calls: &[Call])
-    ensures run { Run (ledger E.top E.known E.meaning entries.old book.old) calls.now (ledger E.top E.known E.meaning entries.new book.new) }
-    ensures good { Starts (ledger E.top E.known E.meaning entries.old book.old) → Good (ledger E.top E.known E.meaning entries.new book.new) }
+    ensures run { Run (ledger E.TOP E.known E.meaning entries.old book.old) calls.now (ledger E.TOP E.known E.meaning entries.new book.new) }
+    ensures good { Starts (ledger E.TOP E.known E.meaning entries.old book.old) → Good (ledger E.TOP E.known E.meaning entries.new book.new) }
 {
     work_all(entries, book, calls);
 }
 
 // The loop of `replay`.
 fn work_all<E: Entry>(entries: &mut [E], book: &mut Book, calls: &[Call])
-    ensures run { Run (ledger E.top E.known E.meaning entries.old book.old) calls.now (ledger E.top E.known E.meaning entries.new book.new) }
-    ensures good { Starts (ledger E.top E.known E.meaning entries.old book.old) → Good (ledger E.top E.known E.meaning entries.new book.new) }
+    ensures run { Run (ledger E.TOP E.known E.meaning entries.old book.old) calls.now (ledger E.TOP E.known E.meaning entries.new book.new) }
+    ensures good { Starts (ledger E.TOP E.known E.meaning entries.old book.old) → Good (ledger E.TOP E.known E.meaning entries.new book.new) }
 {
     for call in calls {
         work(entries, book, *call);
@@ -28,7 +28,7 @@ fn work_all<E: Entry>(entries: &mut [E], book: &mut Book, calls: &[Call])
 
 // One call. Its answer is dropped: the ledger after it says all that the next call needs.
 fn work<E: Entry>(entries: &mut [E], book: &mut Book, call: Call)
-    ensures { ledger E.top E.known E.meaning entries.new book.new ≡ after (ledger E.top E.known E.meaning entries.old book.old) call }
+    ensures { ledger E.TOP E.known E.meaning entries.new book.new ≡ after (ledger E.TOP E.known E.meaning entries.old book.old) call }
 {
     match call {
         Call::Rule {

@@ -156,3 +156,6 @@ module _ (weighs : ℕ → ℕ) (holds : ℕ → Bool) where
 -- between weights of 0 and 1 there is none
 pub light-gapless : (m : Meaning) → ((c : ℕ) → weigh m c ≤ 1) → NoGap m
 light-gapless m light a b w ha hb la lb = absurd (omega (arith, light b))
+
+pub cells-gapless : (weighs : ℕ → ℕ) (holds : ℕ → Bool) → ((c : ℕ) → weighs c ≤ 1) → NoGap (cells weighs holds)
+cells-gapless weighs holds light = light-gapless (cells weighs holds) (weigh-below weighs holds 1 (λ c h. light c))

@@ -2,14 +2,14 @@
 use Rattle.std.proofs.Common.{◌≡◌, ℕ, zero, suc, ◌≤◌, min, max, true, false, ◌⊎◌, [], ◌∷◌, fold, sym, refl, ◌∙◌, subst, inl, inr, arith}
 use Rattle.std.proofs.lemmas.Bool.{both_ways, cases_Bool, cases_lt}
 use Rattle.entry.specs.Cells.{Cell, Meaning, weigh, held}
-use Rattle.entry.specs.Weights.{held-weights, chosen, lightest, heaviest, Extreme, Lightest, Heaviest}
+use Rattle.entry.specs.Weights.{held_weights, chosen, lightest, heaviest, Extreme, Lightest, Heaviest}
 
-first-held : (x : Cell) (m : Meaning) → x.held ≡ true → held-weights (x ∷ m) ≡ x.weight ∷ held-weights m
-unfolding held-weights
+first-held : (x : Cell) (m : Meaning) → x.held ≡ true → held_weights (x ∷ m) ≡ x.weight ∷ held_weights m
+unfolding held_weights
 first-held x m h = rw h refl
 
-first-not : (x : Cell) (m : Meaning) → x.held ≡ false → held-weights (x ∷ m) ≡ held-weights m
-unfolding held-weights
+first-not : (x : Cell) (m : Meaning) → x.held ≡ false → held_weights (x ∷ m) ≡ held_weights m
+unfolding held_weights
 first-not x m h = rw h refl
 
 -- what holds of code 0 and of each code after it holds of each
@@ -76,8 +76,8 @@ module _ (pick : ℕ → ℕ → ℕ) (Ahead : ℕ → ℕ → Type 0) (o : Orde
       every = each (λ c. held (x ∷ m) c ≡ true → Ahead best (weigh (x ∷ m) c)) (λ t. absurd (both_ways x.held h t)) b.every;
     }
 
-  folds : (m : Meaning) (n : ℕ) → Best (fold pick n (held-weights m)) n m
-  unfolding held-weights
+  folds : (m : Meaning) (n : ℕ) → Best (fold pick n (held_weights m)) n m
+  unfolding held_weights
   folds [] n = record { start = o.itself n; every = λ c h. absurd (both_ways false refl h); one_of = inl refl }
   folds (x ∷ m) n =
       elim (cases_Bool x.held) [
@@ -86,8 +86,8 @@ module _ (pick : ℕ → ℕ → ℕ) (Ahead : ℕ → ℕ → Type 0) (o : Orde
       ]
 
   -- what is worked out meets the meaning
-  extreme : (m : Meaning) → Extreme Ahead m (chosen pick (held-weights m))
-  unfolding held-weights chosen
+  extreme : (m : Meaning) → Extreme Ahead m (chosen pick (held_weights m))
+  unfolding held_weights chosen
   extreme [] = record { none = λ _. refl; some = λ c h. absurd (both_ways false refl h); every = λ c h. absurd (both_ways false refl h) }
   extreme (x ∷ m) =
       elim (cases_Bool x.held) [

@@ -1,5 +1,5 @@
 -- Taking a code out of an entry and putting one in: what changes, and when it is refused.
-use Rattle.std.specs.Prelude.{◌≡◌, ℕ, zero, suc, Bool, true, false, not, ◌&&◌, ◌||◌, [], ◌∷◌, is_ok, Decides, Result, ◌==◌, ◌≢◌, nat_lt, slice_set}
+use Rattle.std.specs.Prelude.{◌≡◌, ℕ, zero, suc, Bool, true, false, not, ◌&&◌, ◌||◌, [], ◌∷◌, is_ok, IsTrue, ◌↔◌, Result, ◌==◌, ◌≢◌, nat_lt, slice_set}
 use Rattle.entry.specs.declared.refusal.Refusal.{Refusal}
 use Rattle.entry.specs.Refusals.{Rows, row, topmost, outcome, answered, unless}
 use Rattle.entry.specs.Cells.{Meaning, held, weigh, NoGap}
@@ -34,14 +34,14 @@ missing m w =
 unfoldable pub gapless : Meaning → Bool
 gapless m = not (some (missing m) 64)
 
-abbrev pub strike-rows : (ℕ → Bool) → Meaning → ℕ → Rows
-strike-rows known m c =
+abbrev pub strike_rows : (ℕ → Bool) → Meaning → ℕ → Rows
+strike_rows known m c =
     (not (known c), row 9) ∷
     (only m c, row 10) ∷
     (not (gapless (struck m c)), row 11) ∷ []
 
-abbrev pub grant-rows : (ℕ → Bool) → Meaning → ℕ → Rows
-grant-rows known m c =
+abbrev pub grant_rows : (ℕ → Bool) → Meaning → ℕ → Rows
+grant_rows known m c =
     (not (known c), row 9) ∷
     (not (gapless (granted m c)), row 11) ∷ []
 
@@ -55,17 +55,17 @@ pub record Edited {X : Type 0} (meaning : X → Meaning) (c : ℕ) (rows : Rows)
   pub others : (k : ℕ) → (k ≢ c) → held (meaning y) k ≡ held (meaning x) k
   pub refused : is_ok r ≡ false → y ≡ x
   pub idle : Already → (is_ok r ≡ true) × (y ≡ x)
-  pub whole : Decides (gapless edited) (NoGap edited)
+  pub whole : IsTrue (gapless edited) ↔ NoGap edited
 
 -- a strike of code c; the test of the only held code passes where c is held and no other is
 abbrev pub Strikes : {X : Type 0} → (X → Meaning) → (ℕ → Bool) → ℕ → X → Result (Unit {0}) Refusal → X → Type 0
 Strikes meaning known c x r y =
-    Edited meaning c (strike-rows known (meaning x) c) (struck (meaning x) c)
+    Edited meaning c (strike_rows known (meaning x) c) (struck (meaning x) c)
     ((known c ≡ true) × (held (meaning x) c ≡ false)) x r y
-    × Decides (only (meaning x) c) ((held (meaning x) c ≡ true) × ((k : ℕ) → held (meaning x) k ≡ true → k ≡ c))
+    × (IsTrue (only (meaning x) c) ↔ ((held (meaning x) c ≡ true) × ((k : ℕ) → held (meaning x) k ≡ true → k ≡ c)))
 
 -- a grant of code c
 abbrev pub Grants : {X : Type 0} → (X → Meaning) → (ℕ → Bool) → ℕ → X → Result (Unit {0}) Refusal → X → Type 0
 Grants meaning known c x r y =
-    Edited meaning c (grant-rows known (meaning x) c) (granted (meaning x) c)
+    Edited meaning c (grant_rows known (meaning x) c) (granted (meaning x) c)
     (held (meaning x) c ≡ true) x r y

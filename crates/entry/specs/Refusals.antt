@@ -1,5 +1,5 @@
 -- The table of refusals: the number of each row, what it names, and which row answers a call.
-use Rattle.std.specs.Prelude.{ℕ, Bool, cond, List, [], ◌∷◌, Some, None, Ok, Err, Option, Result}
+use Rattle.std.specs.Prelude.{ℕ, Bool, if◌then◌else◌, List, [], ◌∷◌, Some, None, Ok, Err, Option, Result}
 use Rattle.entry.specs.declared.refusal.Refusal.{Refusal}
 use Rattle.entry.specs.declared.refusal.Refusal.TheVariants.{TooManyDays, EmptyDay, NoSuchDay, BadWindow, BadCount, BookFull, NoSuchRule, RulePastDays, UnknownCode, OnlyCode, WeightGap, BlockedPlan, NoSuchLink, WrongLength, BadLine, AnswersFull}
 
@@ -38,7 +38,7 @@ Rows = List (Bool × Row)
 -- the topmost row that fits
 abbrev pub topmost : Rows → Option Row
 topmost [] = None
-topmost (r ∷ rows) = cond r.0 (Some r.1) (topmost rows)
+topmost (r ∷ rows) = if r.0 then Some r.1 else topmost rows
 
 -- what a call told: its answer by what that means, or the row of its refusal
 abbrev pub told : {X Y : Type 0} → (X → Y) → Result X Refusal → Result Y Row

@@ -3,8 +3,8 @@ use Rattle.std.specs.Prelude.{◌≡◌, ℕ, ◌≤◌, min, max, true, false, 
 use Rattle.entry.specs.Cells.{Meaning, held, weigh}
 
 -- the weights of the held codes
-unfoldable pub held-weights : Meaning → List ℕ
-held-weights m = map (λ cell. cell.weight) (filter (λ cell. cell.held) m)
+unfoldable pub held_weights : Meaning → List ℕ
+held_weights m = map (λ cell. cell.weight) (filter (λ cell. cell.held) m)
 
 -- some numbers, folded by a choice of one of two; 0 of none
 unfoldable pub chosen : (ℕ → ℕ → ℕ) → List ℕ → ℕ
@@ -12,10 +12,10 @@ chosen pick [] = 0
 chosen pick (n ∷ ns) = fold pick n ns
 
 abbrev pub lightest : Meaning → ℕ
-lightest m = chosen min (held-weights m)
+lightest m = chosen min (held_weights m)
 
 abbrev pub heaviest : Meaning → ℕ
-heaviest m = chosen max (held-weights m)
+heaviest m = chosen max (held_weights m)
 
 -- some held code weighs w, and w is ahead of the weight of each; 0 where no code is held
 pub record Extreme (Ahead : ℕ → ℕ → Type 0) (m : Meaning) (w : ℕ) : Type 0 where

@@ -1,4 +1,3 @@
 // What one day of a plan may hold: the trait that every kind of entry keeps, and the refusals.
-pub mod numbers;
 pub mod refusal;
 pub mod traits;

@@ -11,17 +11,14 @@ pub trait Entry: Copy {
     // The kind's top: no code of the kind weighs more.
     const TOP: u32;
 
-    // The top as clauses see it, since none can name the constant.
-    ghost top: { ℕ };
+    // The same number, for clauses.
+    ghost TOP: { ℕ };
 
     // The codes that the kind has.
     ghost known: { ℕ → Bool };
 
     // For each code its weight and whether it is held.
     ghost meaning: { Self → Meaning };
-
-    fn top_weight() -> u32
-        ensures { result ≡ top };
 
     fn known(code: u32) -> bool
         ensures { result ≡ known code };
@@ -51,7 +48,7 @@ pub trait Entry: Copy {
         ensures { Grants meaning known code self.old result self.new };
 
     // Top lies from 1 to 63, a known code is below 64, and a meaning has 64 cells.
-    ghost range: { (1 ≤ top) × (top ≤ 63) };
+    ghost range: { (1 ≤ TOP) × (TOP ≤ 63) };
 
     ghost codes: { (c : ℕ) → known c ≡ true → c < 64 };
 
@@ -62,7 +59,7 @@ pub trait Entry: Copy {
 
     ghost unknowns: { (x : Self) (c : ℕ) → known c ≡ false → weigh (meaning x) c ≡ 0 };
 
-    ghost weights: { (x : Self) (c : ℕ) → weigh (meaning x) c ≤ top };
+    ghost weights: { (x : Self) (c : ℕ) → weigh (meaning x) c ≤ TOP };
 
     // The no-gap law: settling turns spans of weights into held codes by it.
     ghost gapless: { (x : Self) → NoGap (meaning x) };

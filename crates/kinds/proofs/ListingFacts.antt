@@ -2,17 +2,17 @@
 use Rattle.std.proofs.Common.{◌≡◌, ℕ, Bool, true, false, eqb, List, [], ◌∷◌, Ok, Err, Result, refl, ap, ◌∙◌, inl, inr, arith}
 use Rattle.std.proofs.lemmas.Bool.{cases_Bool, and_parts, or_cases, eqb-true, both_ways}
 use Rattle.entry.specs.Refusals.{Row, row, topmost, answered}
-use Rattle.kinds.specs.Listings.{lists, all_known, listing-rows}
+use Rattle.kinds.specs.Listings.{lists, all_known, listing_rows}
 
 module _ {X : Type 0} (known : ℕ → Bool) (ns : List ℕ) (x : X) where
   -- the answer of a call that a listing alone can refuse
-  pub all-taken : all_known known ns ≡ true → answered (topmost (listing-rows known ns)) x ≡ Ok x
+  pub all-taken : all_known known ns ≡ true → answered (topmost (listing_rows known ns)) x ≡ Ok x
   all-taken t = rw t refl
 
-  one-refused : all_known known ns ≡ false → answered (topmost (listing-rows known ns)) x ≡ Err (row 9)
+  one-refused : all_known known ns ≡ false → answered (topmost (listing_rows known ns)) x ≡ Err (row 9)
   one-refused f = rw f refl
 
-  pub taken-all : (y : X) → Ok y ≡ answered (topmost (listing-rows known ns)) x → (all_known known ns ≡ true) × (y ≡ x)
+  pub taken-all : (y : X) → Ok y ≡ answered (topmost (listing_rows known ns)) x → (all_known known ns ≡ true) × (y ≡ x)
   taken-all y e =
       elim (cases_Bool (all_known known ns)) [
         | inl t ↦ let o : Ok y ≡ Ok x = e ∙ all-taken t in (t, cc)

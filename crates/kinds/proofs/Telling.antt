@@ -12,4 +12,4 @@ cell-of weighs holds c w h weight held =
 
 pub weights-of : (m : Meaning) (low high : ℕ) → Lightest m low → Heaviest m high → WeightsOf m (record { lightest = low; heaviest = high })
 weights-of m low high l h =
-    record { least = lightest-is m low l; most = heaviest-is m high h; none-less = l; none_more = h }
+    record { least = lightest-is m low l; most = heaviest-is m high h; none_less = l; none_more = h }

@@ -4,6 +4,4 @@ pub mod Told
 pub mod Duties
 pub mod Collections
 pub mod Spans
-pub mod SpanFacts
-pub mod CollectionFacts
-pub mod DutyFacts
+pub mod Laws

@@ -14,9 +14,9 @@ abbrev pub all_known : (ℕ → Bool) → List ℕ → Bool
 all_known known [] = true
 all_known known (n ∷ ns) = known n && all_known known ns
 
-abbrev pub listing-rows : (ℕ → Bool) → List ℕ → Rows
-listing-rows known ns = (not (all_known known ns), row 9) ∷ []
+abbrev pub listing_rows : (ℕ → Bool) → List ℕ → Rows
+listing_rows known ns = (not (all_known known ns), row 9) ∷ []
 
 -- r is the set of the listed numbers, or the refusal
 abbrev pub Listed : (ℕ → Bool) → List ℕ → Result CodeSet Refusal → Type 0
-Listed known ns r = told member r ≡ answered (topmost (listing-rows known ns)) (lists ns)
+Listed known ns r = told member r ≡ answered (topmost (listing_rows known ns)) (lists ns)

@@ -15,5 +15,5 @@ abbrev pub boxed : Boxes → Meaning
 boxed b = spanned b.low b.high
 
 -- what is built from two ends, or the refusal where either is above 63
-abbrev pub boxes-of : ℕ → ℕ → Result Meaning Row
-boxes-of low high = answered (topmost ((nat_lt 63 low || nat_lt 63 high, row 9) ∷ [])) (spanned low high)
+abbrev pub boxes_of : ℕ → ℕ → Result Meaning Row
+boxes_of low high = answered (topmost ((nat_lt 63 low || nat_lt 63 high, row 9) ∷ [])) (spanned low high)

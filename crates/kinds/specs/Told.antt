@@ -16,7 +16,7 @@ pub record CellOf (m : Meaning) (c : ℕ) (r : Cell) : Type 0 where
 pub record WeightsOf (m : Meaning) (r : Weights) : Type 0 where
   pub least : r.lightest ≡ lightest m
   pub most : r.heaviest ≡ heaviest m
-  pub none-less : Lightest m r.lightest
+  pub none_less : Lightest m r.lightest
   pub none_more : Heaviest m r.heaviest
 
 -- an edit told as the new entry, or as the refusal that leaves the old one: what it answers, and what it leaves of x

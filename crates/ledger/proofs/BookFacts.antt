@@ -3,7 +3,7 @@ use Rattle.std.proofs.Common.{◌≡◌, ℕ, ◌+◌, ◌-◌, ◌≤◌, List,
 use Rattle.std.proofs.lemmas.List.FromFn.{map-range_with_len_more}
 use Rattle.std.proofs.ByRecursion.{All-get_or, All-from_get_or, All-push}
 use Rattle.ledger.specs.declared.rule.Rule.{Rule}
-use Rattle.ledger.specs.Rules.{made, windows, no-rule, Within, Bounds}
+use Rattle.ledger.specs.Rules.{made, windows, no_rule, Within, Bounds}
 
 -- no kind has a top above 63
 pub within-63 : (days top : ℕ) (r : Rule) → top ≤ 63 → Within days top r → Within days 63 r
@@ -13,8 +13,8 @@ within-63 days top r small w =
 
 pub bounds-push : (rules : List Rule) (r : Rule) → Bounds rules → Within 128 63 r → Bounds (rules ++ (r ∷ []))
 bounds-push rules r h w k lt =
-    All-get_or (Within 128 63) (rules ++ (r ∷ [])) k no-rule lt
-    (All-push (Within 128 63) rules r (All-from_get_or (Within 128 63) rules no-rule h) w)
+    All-get_or (Within 128 63) (rules ++ (r ∷ [])) k no_rule lt
+    (All-push (Within 128 63) rules r (All-from_get_or (Within 128 63) rules no_rule h) w)
 
 -- one window more
 pub windows-more : (old rules new : List Rule) (first width least most : ℕ) → 1 ≤ first

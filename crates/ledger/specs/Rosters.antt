@@ -10,30 +10,30 @@ abbrev pub Roster : Type 0
 Roster = List ℕ
 
 -- what the codes weigh together, each in the entry of its day
-abbrev pub weight-of : List Meaning → Roster → ℕ
-weight-of days roster = sum_by (λ p. weigh p.0 p.1) (zip days roster)
+abbrev pub weight_of : List Meaning → Roster → ℕ
+weight_of days roster = sum_by (λ p. weigh p.0 p.1) (zip days roster)
 
 -- the total at a mark: the weight of the days before it
 abbrev pub total : List Meaning → Roster → ℕ → ℕ
-total days roster mark = weight-of (take mark days) (take mark roster)
+total days roster mark = weight_of (take mark days) (take mark roster)
 
 -- of a list with one item for each day, the items from the rule's first day to its last
 abbrev pub stretch : {X : Type 0} → Rule → List X → List X
 stretch r xs = between (r.first - 1) r.last xs
 
-abbrev pub stretch-weight : List Meaning → Roster → Rule → ℕ
-stretch-weight days roster r = weight-of (stretch r days) (stretch r roster)
+abbrev pub stretch_weight : List Meaning → Roster → Rule → ℕ
+stretch_weight days roster r = weight_of (stretch r days) (stretch r roster)
 
 -- the entry of a day holds its code
-abbrev pub holds-its-code : Meaning × ℕ → Bool
-holds-its-code p = held p.0 p.1
+abbrev pub holds_its_code : Meaning × ℕ → Bool
+holds_its_code p = held p.0 p.1
 
 -- the rule is withdrawn, or its stretch weighs from its least to its most
 abbrev pub keeps : List Meaning → Roster → Rule → Bool
 keeps days roster r =
-    not r.in_force || (nat_le r.least (stretch-weight days roster r) && nat_le (stretch-weight days roster r) r.most)
+    not r.in_force || (nat_le r.least (stretch_weight days roster r) && nat_le (stretch_weight days roster r) r.most)
 
 pub record Lawful (l : Ledger) (roster : Roster) : Type 0 where
   pub long : length roster ≡ length l.days
-  pub held : All (λ p. holds-its-code p ≡ true) (zip l.days roster)
+  pub held : All (λ p. holds_its_code p ≡ true) (zip l.days roster)
   pub kept : All (λ r. keeps l.days roster r ≡ true) l.rules

@@ -1,13 +1,13 @@
 ghost use Rattle.std.specs.Prelude.{◌≡◌, ◌<◌, ◌≤◌, map, length};
 ghost use Rattle.ledger.specs.declared.call.Call.TheVariants as calls;
-ghost use Rattle.ledger.specs.Edits.{Counts-days, Edits-day};
+ghost use Rattle.ledger.specs.Edits.{CountsDays, EditsDay};
 
 use entry::refusal::Refusal;
 use entry::traits::Entry;
 
 // Takes a code out of the entry of one day.
 pub fn strike<E: Entry>(entries: &mut [E], day: u32, code: u32) -> Result<(), Refusal>
-    ensures { Edits-day E.top E.known E.meaning (calls.Strike day code) day entries.old result entries.new }
+    ensures { EditsDay E.TOP E.known E.meaning (calls.Strike day code) day entries.old result entries.new }
 {
     let days = day_count(entries)?;
     if day == 0 || days < day {
@@ -18,7 +18,7 @@ pub fn strike<E: Entry>(entries: &mut [E], day: u32, code: u32) -> Result<(), Re
 
 // Puts a code into the entry of one day.
 pub fn grant<E: Entry>(entries: &mut [E], day: u32, code: u32) -> Result<(), Refusal>
-    ensures { Edits-day E.top E.known E.meaning (calls.Grant day code) day entries.old result entries.new }
+    ensures { EditsDay E.TOP E.known E.meaning (calls.Grant day code) day entries.old result entries.new }
 {
     let days = day_count(entries)?;
     if day == 0 || days < day {
@@ -30,7 +30,7 @@ pub fn grant<E: Entry>(entries: &mut [E], day: u32, code: u32) -> Result<(), Ref
 // The entry is copied out, struck, and stored back whole.
 fn strike_day<E: Entry>(entries: &mut [E], day: u32, code: u32) -> Result<(), Refusal>
     requires { (length entries.old ≤ 128) × (0 < day) × (day ≤ length entries.old) }
-    ensures { Edits-day E.top E.known E.meaning (calls.Strike day code) day entries.old result entries.new }
+    ensures { EditsDay E.TOP E.known E.meaning (calls.Strike day code) day entries.old result entries.new }
 {
     let at = day as usize - 1;
     let mut entry = entries[at];
@@ -42,7 +42,7 @@ fn strike_day<E: Entry>(entries: &mut [E], day: u32, code: u32) -> Result<(), Re
 // The entry is copied out, granted the code, and stored back whole.
 fn grant_day<E: Entry>(entries: &mut [E], day: u32, code: u32) -> Result<(), Refusal>
     requires { (length entries.old ≤ 128) × (0 < day) × (day ≤ length entries.old) }
-    ensures { Edits-day E.top E.known E.meaning (calls.Grant day code) day entries.old result entries.new }
+    ensures { EditsDay E.TOP E.known E.meaning (calls.Grant day code) day entries.old result entries.new }
 {
     let at = day as usize - 1;
     let mut entry = entries[at];
@@ -53,7 +53,7 @@ fn grant_day<E: Entry>(entries: &mut [E], day: u32, code: u32) -> Result<(), Ref
 
 // The number of days, which is the number of entries; refused where they are too many.
 pub fn day_count<E: Entry>(entries: &[E]) -> Result<u32, Refusal>
-    ensures { Counts-days E.meaning entries.now result }
+    ensures { CountsDays E.meaning entries.now result }
 {
     let days = entry_count(entries);
     if days > 128 {

@@ -1,6 +1,5 @@
 // The ledger of a plan: the rules of the book, and the calls that edit book and entries.
 pub mod book;
-pub mod book_calls;
 pub mod call;
 pub mod days;
 pub mod rule;

@@ -7,10 +7,10 @@ use Rattle.std.proofs.ByRecursion.{All-get_or}
 use Rattle.std.proofs.lemmas.Bool.Decides.{nat_tests}
 use Rattle.entry.specs.Cells.{Meaning}
 use Rattle.ledger.specs.declared.rule.Rule.{Rule}
-use Rattle.ledger.specs.Ledgers.{Ledger, failing, ends-within}
-use Rattle.ledger.specs.Rosters.{Roster, stretch, stretch-weight, holds-its-code, keeps, Lawful}
-use Rattle.ledger.specs.Rules.{no-rule, numbered, Bounds}
-use Rattle.roster.specs.Findings.{lawful, not-held, broken, first-fault, verdict, First-failing}
+use Rattle.ledger.specs.Ledgers.{Ledger, failing, ends_within}
+use Rattle.ledger.specs.Rosters.{Roster, stretch, stretch_weight, holds_its_code, keeps, Lawful}
+use Rattle.ledger.specs.Rules.{no_rule, numbered, Bounds}
+use Rattle.roster.specs.Findings.{lawful, not_held, broken, first_fault, verdict, FirstFailing}
 
 some_is : (b : Bool) (m n : ℕ) → cond b (Some m) None ≡ Some n → (b ≡ true) × (m ≡ n)
 some_is true m n e = (refl, ap (λ o. unwrap_or o 0) e)
@@ -33,7 +33,7 @@ module _ {X : Type 0} (test : X → Bool) where
       by false e h = (tt, λ lt d. e)
 
   -- the first that fails, where one does
-  pub first-failing : (xs : List X) (n : ℕ) → failing test xs ≡ Some n → First-failing test xs n
+  pub first-failing : (xs : List X) (n : ℕ) → failing test xs ≡ Some n → FirstFailing test xs n
   first-failing xs n e =
       let k = prefix_len test xs in
       let found : (ltb k (length xs) ≡ true) × (k + 1 ≡ n) = some_is (ltb k (length xs)) (k + 1) n e in
@@ -57,7 +57,7 @@ module _ {X : Type 0} (test : X → Bool) where
       subst (All (λ x. test x ≡ true)) (take_all k xs past) (led xs).0
 
   -- not all pass where one fails
-  pub some-fails : (xs : List X) (n : ℕ) → First-failing test xs n → All (λ x. test x ≡ true) xs → ⊥
+  pub some-fails : (xs : List X) (n : ℕ) → FirstFailing test xs n → All (λ x. test x ≡ true) xs → ⊥
   some-fails [] n f h = let from = f.0 in let to = f.1 in omega arith
   some-fails (x ∷ xs) n f h =
       let from = f.0 in
@@ -70,9 +70,9 @@ by-force false kept ends p q = absurd (true≢false p)
 
 -- a broken rule is in force, and so ends within the days where each rule in force does
 broken-ends : (days : List Meaning) (roster : Roster) (r : Rule) (n : ℕ)
-    → keeps days roster r ≡ false → ends-within n r ≡ true → r.last ≤ n
+    → keeps days roster r ≡ false → ends_within n r ≡ true → r.last ≤ n
 broken-ends days roster r n p q =
-    let w = stretch-weight days roster r in
+    let w = stretch_weight days roster r in
     let e = by-force r.in_force (leb r.least w && leb w r.most) (leb r.last n) p q in
     grind (arith, nat_tests)
 
@@ -81,33 +81,33 @@ module _ (l : Ledger) (roster : Roster) where
   abbrev pairs : List (Meaning × ℕ)
   pairs = zip l.days roster
 
-  pub day-fault : (day : ℕ) → Some day ≡ failing holds-its-code pairs
-      → (not-held day ≡ verdict l roster) × ((Lawful l roster → ⊥) × First-failing holds-its-code pairs day)
+  pub day-fault : (day : ℕ) → Some day ≡ failing holds_its_code pairs
+      → (not_held day ≡ verdict l roster) × ((Lawful l roster → ⊥) × FirstFailing holds_its_code pairs day)
   day-fault day e =
-      let f = first-failing holds-its-code pairs day (sym e) in (
-        ap (λ o. first-fault l roster o (failing (keeps l.days roster) l.rules)) e,
-        ((λ h. some-fails holds-its-code pairs day f h.held), f),
+      let f = first-failing holds_its_code pairs day (sym e) in (
+        ap (λ o. first_fault l roster o (failing (keeps l.days roster) l.rules)) e,
+        ((λ h. some-fails holds_its_code pairs day f h.held), f),
       )
 
-  module _ (rules : List Rule) (same : rules ≡ l.rules) (held : None ≡ failing holds-its-code pairs) where
+  module _ (rules : List Rule) (same : rules ≡ l.rules) (held : None ≡ failing holds_its_code pairs) where
     pub faultless : length roster ≡ length l.days → None ≡ failing (keeps l.days roster) rules
         → (lawful ≡ verdict l roster) × Lawful l roster
     faultless long e =
         let kept : None ≡ failing (keeps l.days roster) l.rules = e ∙ ap (failing (keeps l.days roster)) same in (
-          (λ i. first-fault l roster (held i) (kept i)),
+          (λ i. first_fault l roster (held i) (kept i)),
           record {
             long = long;
-            held = none-failing holds-its-code pairs (sym held);
+            held = none-failing holds_its_code pairs (sym held);
             kept = none-failing (keeps l.days roster) l.rules (sym kept);
           },
         )
 
     module _ (number : ℕ) (fails : Some number ≡ failing (keeps l.days roster) rules) where
       abbrev rule : Rule
-      rule = get_or rules (number - 1) no-rule
+      rule = get_or rules (number - 1) no_rule
 
       -- the rule's days lie within the plan where each rule in force does
-      pub rule-within : (n : ℕ) → Bounds rules → failing (ends-within n) l.rules ≡ None
+      pub rule-within : (n : ℕ) → Bounds rules → failing (ends_within n) l.rules ≡ None
           → (1 ≤ rule.first) × (rule.first ≤ rule.last) × (rule.last ≤ n)
       rule-within n bounds none =
           let f = first-failing (keeps l.days roster) rules number (sym fails) in
@@ -115,25 +115,25 @@ module _ (l : Ledger) (roster : Roster) where
           let to = f.1 in
           let lt : number - 1 < length rules = omega arith in
           let b = bounds (number - 1) lt in
-          let within = none-failing (ends-within n) rules (ap (failing (ends-within n)) same ∙ none) in
-          let ends = All-get_or (λ r. ends-within n r ≡ true) rules (number - 1) no-rule lt within in
-          (b.0, b.1, broken-ends l.days roster rule n (f.2 no-rule) ends)
+          let within = none-failing (ends_within n) rules (ap (failing (ends_within n)) same ∙ none) in
+          let ends = All-get_or (λ r. ends_within n r ≡ true) rules (number - 1) no_rule lt within in
+          (b.0, b.1, broken-ends l.days roster rule n (f.2 no_rule) ends)
 
       pub rule-fault : (part : Roster) → part ≡ stretch rule roster → (let r = numbered l.rules number in
           (broken number rule.first rule.last part ≡ verdict l roster)
-          × ((Lawful l roster → ⊥) × All (λ p. holds-its-code p ≡ true) pairs
-          × First-failing (keeps l.days roster) l.rules number
+          × ((Lawful l roster → ⊥) × All (λ p. holds_its_code p ≡ true) pairs
+          × FirstFailing (keeps l.days roster) l.rules number
           × (rule.first ≡ r.first) × (rule.last ≡ r.last) × (part ≡ stretch r roster)))
       rule-fault part e =
           let here : Some number ≡ failing (keeps l.days roster) l.rules =
           fails ∙ ap (failing (keeps l.days roster)) same in
           let f = first-failing (keeps l.days roster) l.rules number (sym here) in
-          let r : rule ≡ numbered l.rules number = ap (λ rs. get_or rs (number - 1) no-rule) same in
+          let r : rule ≡ numbered l.rules number = ap (λ rs. get_or rs (number - 1) no_rule) same in
           let shown : part ≡ stretch (numbered l.rules number) roster = e ∙ ap (λ x. stretch x roster) r in (
-            (λ i. broken number (r i).first (r i).last (shown i)) ∙ (λ i. first-fault l roster (held i) (here i)),
+            (λ i. broken number (r i).first (r i).last (shown i)) ∙ (λ i. first_fault l roster (held i) (here i)),
             (
               (λ h. some-fails (keeps l.days roster) l.rules number f h.kept),
-              none-failing holds-its-code pairs (sym held),
+              none-failing holds_its_code pairs (sym held),
               f,
               ap (λ (x : Rule). x.first) r,
               ap (λ (x : Rule). x.last) r,

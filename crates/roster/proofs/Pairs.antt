@@ -5,7 +5,7 @@ use Rattle.std.proofs.lemmas.List.{take-map, drop-map}
 use Rattle.std.proofs.lemmas.List.Sums.{sum_by-cons}
 use Rattle.entry.specs.Cells.{Meaning, weigh}
 use Rattle.ledger.specs.declared.rule.Rule.{Rule}
-use Rattle.ledger.specs.Rosters.{Roster, weight-of, stretch, stretch-weight}
+use Rattle.ledger.specs.Rosters.{Roster, weight_of, stretch, stretch_weight}
 
 abbrev each : Meaning × ℕ → ℕ
 each p = weigh p.0 p.1
@@ -20,23 +20,23 @@ module _ {X : Type 0} (f : X → Meaning) (xs : List X) (codes : Roster) where
       none [] = refl
       none (y ∷ ys) = refl
 
-  pub weight-end : (xs ≡ []) ⊎ (codes ≡ []) → weight-of (map f xs) codes ≡ 0
+  pub weight-end : (xs ≡ []) ⊎ (codes ≡ []) → weight_of (map f xs) codes ≡ 0
   weight-end e = ap (sum_by each) (zipped-end e)
 
   module _ (x : X) (code : ℕ) (ys : List X) (later : Roster) (entries : xs ≡ x ∷ ys) (roster : codes ≡ code ∷ later) where
     pub zipped-cons : zip (map f xs) codes ≡ (f x, code) ∷ zip (map f ys) later
     zipped-cons = λ i. zip (map f (entries i)) (roster i)
 
-    pub weight-cons : weight-of (map f xs) codes ≡ weigh (f x) code + weight-of (map f ys) later
+    pub weight-cons : weight_of (map f xs) codes ≡ weigh (f x) code + weight_of (map f ys) later
     weight-cons = ap (sum_by each) zipped-cons ∙ sum_by-cons each (f x, code) (zip (map f ys) later)
 
 -- the stretch of a rule, by entries and by what they mean
 pub stretch-weighs : {X : Type 0} (f : X → Meaning) (rule : Rule) (xs part : List X) (roster codes : Roster) (weight : ℕ)
-    → part ≡ stretch rule xs → codes ≡ stretch rule roster → weight ≡ weight-of (map f part) codes
-    → weight ≡ stretch-weight (map f xs) roster rule
+    → part ≡ stretch rule xs → codes ≡ stretch rule roster → weight ≡ weight_of (map f part) codes
+    → weight ≡ stretch_weight (map f xs) roster rule
 stretch-weighs f rule xs part roster codes weight entries shown e =
     let from = rule.first - 1 in
     let n = rule.last - from in
     let means : map f (stretch rule xs) ≡ stretch rule (map f xs) =
     sym (take-map f n (drop from xs)) ∙ ap (take n) (sym (drop-map f from xs)) in
-    e ∙ (λ i. weight-of (map f (entries i)) (shown i)) ∙ ap (λ days. weight-of days (stretch rule roster)) means
+    e ∙ (λ i. weight_of (map f (entries i)) (shown i)) ∙ ap (λ days. weight_of days (stretch rule roster)) means

@@ -1,7 +1,7 @@
 ghost use Rattle.std.specs.Prelude.{◌≡◌, ◌≤◌, map, length, None, Ok};
 ghost use Rattle.std.specs.List.{zip};
-ghost use Rattle.ledger.specs.Ledgers.{rules-of, ledger, failing, ends-within};
-ghost use Rattle.ledger.specs.Rosters.{holds-its-code, keeps};
+ghost use Rattle.ledger.specs.Ledgers.{ledger, failing, ends_within};
+ghost use Rattle.ledger.specs.Rosters.{holds_its_code, keeps};
 ghost use Rattle.ledger.specs.Rules.{Bounds};
 ghost use Rattle.roster.specs.Findings.{shown, verdict, Found};
 
@@ -14,7 +14,7 @@ use ledger::rule::Rule;
 // The smallest number of a rule in force that ends past the days.
 pub(crate) fn past_days(rules: &[Rule], days: u32) -> Option<u32>
     requires { length rules.now ≤ 512 }
-    ensures { result ≡ failing (ends-within days) rules.now }
+    ensures { result ≡ failing (ends_within days) rules.now }
 {
     let mut number = 1;
     for rule in rules {
@@ -27,7 +27,7 @@ pub(crate) fn past_days(rules: &[Rule], days: u32) -> Option<u32>
 }
 
 fn ends_within(days: u32, rule: Rule) -> bool
-    ensures { result ≡ ends-within days rule }
+    ensures { result ≡ ends_within days rule }
 {
     !rule.in_force || rule.last <= days
 }
@@ -35,7 +35,7 @@ fn ends_within(days: u32, rule: Rule) -> bool
 // The first day whose entry does not hold its code.
 fn not_held<E: Entry>(entries: &[E], roster: &[u8]) -> Option<u32>
     requires { length entries.now ≤ 128 }
-    ensures { result ≡ failing holds-its-code (zip (map E.meaning entries.now) roster.now) }
+    ensures { result ≡ failing holds_its_code (zip (map E.meaning entries.now) roster.now) }
 {
     let mut day = 1;
     for (entry, code) in entries.iter().zip(roster.iter()) {
@@ -49,7 +49,7 @@ fn not_held<E: Entry>(entries: &[E], roster: &[u8]) -> Option<u32>
 
 // The smallest number of a broken rule.
 fn broken<E: Entry>(entries: &[E], rules: &[Rule], roster: &[u8]) -> Option<u32>
-    requires { (length entries.now ≤ 128) × (length roster.now ≡ length entries.now) × (length rules.now ≤ 512) × Bounds rules.now × (failing (ends-within (length entries.now)) rules.now ≡ None) }
+    requires { (length entries.now ≤ 128) × (length roster.now ≡ length entries.now) × (length rules.now ≤ 512) × Bounds rules.now × (failing (ends_within (length entries.now)) rules.now ≡ None) }
     ensures { result ≡ failing (keeps (map E.meaning entries.now) roster.now) rules.now }
 {
     let mut number = 1;
@@ -64,9 +64,9 @@ fn broken<E: Entry>(entries: &[E], rules: &[Rule], roster: &[u8]) -> Option<u32>
 
 // The first fault of a roster that is as long as the plan.
 pub(crate) fn first_fault<'r, E: Entry>(entries: &[E], book: &Book, roster: &'r [u8]) -> Finding<'r>
-    requires { (length entries.now ≤ 128) × (length roster.now ≡ length entries.now) × (failing (ends-within (length entries.now)) (rules-of book.now) ≡ None) }
-    ensures shown { shown result ≡ verdict (ledger E.top E.known E.meaning entries.now book.now) roster.now }
-    ensures found { Found (ledger E.top E.known E.meaning entries.now book.now) roster.now (Ok result) }
+    requires { (length entries.now ≤ 128) × (length roster.now ≡ length entries.now) × (failing (ends_within (length entries.now)) book.now ≡ None) }
+    ensures shown { shown result ≡ verdict (ledger E.TOP E.known E.meaning entries.now book.now) roster.now }
+    ensures found { Found (ledger E.TOP E.known E.meaning entries.now book.now) roster.now (Ok result) }
 {
     if let Some(day) = not_held(entries, roster) {
         return Finding::NotHeld { day };

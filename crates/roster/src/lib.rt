@@ -18,7 +18,7 @@ pub fn check<'r, E: Entry>(
     book: &Book,
     roster: &'r [u8],
 ) -> Result<Finding<'r>, Refusal>
-    ensures { Checks (ledger E.top E.known E.meaning entries.now book.now) roster.now result }
+    ensures { Checks (ledger E.TOP E.known E.meaning entries.now book.now) roster.now result }
 {
     let days = day_count(entries)?;
     if let Some(number) = faults::past_days(book.rules(), days) {

@@ -5,5 +5,5 @@ pub returns : goal.returns
 returns g c =
     let old = c.index-entries-at in
     let edit = c.strike-answer in
-    strikes-day g.E.Entry.top g.E.Entry.known g.E.Entry.meaning c.args.entries.now c.args.day old.result
+    strikes-day g.E.Entry.TOP g.E.Entry.known g.E.Entry.meaning c.args.entries.now c.args.day old.result
     c.requires.0 c.requires.1 c.requires.2 old.is c.args.code edit.result edit.new.self edit.ensures

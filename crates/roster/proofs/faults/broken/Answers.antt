@@ -1,8 +1,8 @@
 use Rattle.std.proofs.Common.{◌≡◌, true, map, length}
 use Rattle.std.proofs.ByRecursion.{All-get_or}
-use Rattle.ledger.specs.Ledgers.{ends-within}
+use Rattle.ledger.specs.Ledgers.{ends_within}
 use Rattle.ledger.specs.Rosters.{keeps}
-use Rattle.ledger.specs.Rules.{no-rule}
+use Rattle.ledger.specs.Rules.{no_rule}
 use Rattle.roster.proofs.FaultFacts.{none-failing}
 use Rattle.roster.proofs.Firsts.{slice-more, slice-here, slice-nowhere}
 use Rattle.roster.proofs.faults.broken.Goals as goal
@@ -12,21 +12,21 @@ keeps-requires g c =
     let rules = c.args.rules.now in
     let i = c.loop-rule.rule-index in
     let lt = c.loop-rule-test.true in
-    let test = ends-within (length c.args.entries.now) in
-    (c.requires.0, c.requires.1, c.requires.3 i lt, All-get_or (λ r. test r ≡ true) rules i no-rule lt (none-failing test rules c.requires.4))
+    let test = ends_within (length c.args.entries.now) in
+    (c.requires.0, c.requires.1, c.requires.3 i lt, All-get_or (λ r. test r ≡ true) rules i no_rule lt (none-failing test rules c.requires.4))
 
 pub loop-rule-preserved : goal.loop-rule-preserved
 loop-rule-preserved g c =
     let test = keeps (map g.E.Entry.meaning c.args.entries.now) c.args.roster.now in
     let at = c.loop-rule in
-    slice-more test c.args.rules.now at.rule-index at.number at.invariant no-rule c.loop-rule-test.true
+    slice-more test c.args.rules.now at.rule-index at.number at.invariant no_rule c.loop-rule-test.true
     c.if-not-keeps.ensures
 
 pub returns-then-not-keeps : goal.returns-then-not-keeps
 returns-then-not-keeps g c =
     let test = keeps (map g.E.Entry.meaning c.args.entries.now) c.args.roster.now in
     let at = c.loop-rule in
-    slice-here test c.args.rules.now at.rule-index at.number at.invariant no-rule c.loop-rule-test.true
+    slice-here test c.args.rules.now at.rule-index at.number at.invariant no_rule c.loop-rule-test.true
     c.if-not-keeps.ensures
 
 pub returns : goal.returns

@@ -7,14 +7,14 @@ use Rattle.roster.proofs.faults.first_fault.Goals as goal
 pub returns-in-Some : goal.returns-in-Some
 returns-in-Some g c =
     let e = g.E.Entry in
-    let plan = ledger e.top e.known e.meaning c.args.entries.now c.args.book.now in
+    let plan = ledger e.TOP e.known e.meaning c.args.entries.now c.args.book.now in
     let told = day-fault plan c.args.roster.now c.in-Some.day c.in-Some.ensures in
     record { shown = told.0; found = told.1 }
 
 pub returns-in_default-broken : goal.returns-in_default-broken
 returns-in_default-broken g c =
     let e = g.E.Entry in
-    let plan = ledger e.top e.known e.meaning c.args.entries.now c.args.book.now in
+    let plan = ledger e.TOP e.known e.meaning c.args.entries.now c.args.book.now in
     let rules = c.rules-rules in
     let long = c.requires.1 ∙ sym (length-map c.args.entries.now e.meaning) in
     let told = faultless plan c.args.roster.now rules.result.now rules.ensures.rules c.in_default.ensures long
@@ -24,7 +24,7 @@ returns-in_default-broken g c =
 pub stretch-requires : goal.stretch-requires
 stretch-requires g c =
     let e = g.E.Entry in
-    let plan = ledger e.top e.known e.meaning c.args.entries.now c.args.book.now in
+    let plan = ledger e.TOP e.known e.meaning c.args.entries.now c.args.book.now in
     let rules = c.rules-rules in
     let rule = c.in-Some-broken in
     let within = rule-within plan c.args.roster.now rules.result.now rules.ensures.rules c.in_default.ensures
@@ -34,7 +34,7 @@ stretch-requires g c =
 pub returns : goal.returns
 returns g c =
     let e = g.E.Entry in
-    let plan = ledger e.top e.known e.meaning c.args.entries.now c.args.book.now in
+    let plan = ledger e.TOP e.known e.meaning c.args.entries.now c.args.book.now in
     let rules = c.rules-rules in
     let rule = c.in-Some-broken in
     let told = rule-fault plan c.args.roster.now rules.result.now rules.ensures.rules c.in_default.ensures

@@ -1,6 +1,6 @@
 use Rattle.std.proofs.Common.{◌≤◌, arith, rules}
-use Rattle.ledger.specs.Ledgers.{ends-within}
-use Rattle.ledger.specs.Rules.{no-rule}
+use Rattle.ledger.specs.Ledgers.{ends_within}
+use Rattle.ledger.specs.Rules.{no_rule}
 use Rattle.roster.proofs.Firsts.{slice-more, slice-here, slice-nowhere}
 use Rattle.roster.proofs.faults.past_days.Goals as goal
 
@@ -14,17 +14,17 @@ overflow_add-number c =
 pub loop-rule-preserved : goal.loop-rule-preserved
 loop-rule-preserved c =
     let at = c.loop-rule in
-    slice-more (ends-within c.args.days) c.args.rules.now at.rule-index at.number at.invariant no-rule
+    slice-more (ends_within c.args.days) c.args.rules.now at.rule-index at.number at.invariant no_rule
     c.loop-rule-test.true c.if-not-ends_within.ensures
 
 pub returns-then-not-ends_within : goal.returns-then-not-ends_within
 returns-then-not-ends_within c =
     let at = c.loop-rule in
-    slice-here (ends-within c.args.days) c.args.rules.now at.rule-index at.number at.invariant no-rule
+    slice-here (ends_within c.args.days) c.args.rules.now at.rule-index at.number at.invariant no_rule
     c.loop-rule-test.true c.if-not-ends_within.ensures
 
 pub returns : goal.returns
 returns c =
     let at = c.loop-rule in
-    slice-nowhere (ends-within c.args.days) c.args.rules.now at.rule-index at.number at.invariant
+    slice-nowhere (ends_within c.args.days) c.args.rules.now at.rule-index at.number at.invariant
     c.loop-rule-test.false

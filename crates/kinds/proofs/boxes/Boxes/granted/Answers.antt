@@ -4,7 +4,8 @@ use Rattle.entry.proofs.CellFacts.{held-known}
 use Rattle.entry.proofs.Verdicts.{grants-unknown, grants-gap, grants-taken, grants-idle}
 use Rattle.kinds.specs.Codes.{any_code}
 use Rattle.kinds.specs.Spans.{boxed, spans}
-use Rattle.kinds.specs.SpanFacts.{sized, no_gap, run_in, run_out, none-held, low-granted, high-granted, first-granted, outer-granted}
+use Rattle.kinds.specs.Laws.{run_gapless, run_in}
+use Rattle.kinds.proofs.SpanFacts.{sized, run_out, none-held, low-granted, high-granted, first-granted, outer-granted}
 use Rattle.kinds.proofs.boxes.Boxes.granted.Goals as goal
 use Rattle.kinds.proofs.boxes.Boxes.granted.Goals.{else-low-code-via-then-low-code+else-code-high, else-low-code-via-else-low-code}
 
@@ -20,7 +21,7 @@ returns-then-high-low c =
     let b = c.args.self in
     let code = c.args.code in
     let below : code < 64 = omega arith in
-    grants-taken boxed any_code code b (sized b.low b.high) _ (lt-ltb code 64 below) (no_gap _ _)
+    grants-taken boxed any_code code b (sized b.low b.high) _ (lt-ltb code 64 below) (run_gapless _ _)
     (first-granted b.low b.high code below (omega arith))
     (λ t. absurd (none-held b.low b.high (omega arith) code t))
 
@@ -30,14 +31,14 @@ returns-then-code-high c =
     let code = c.args.code in
     let below : code < 64 = omega arith in
     grants-idle boxed any_code code b (sized b.low b.high) (lt-ltb code 64 below)
-    (run_in b.low b.high code (omega arith) (omega arith) below) (no_gap b.low b.high)
+    (run_in b.low b.high code (omega arith) (omega arith) below) (run_gapless b.low b.high)
 
 pub returns-then-code-low : goal.returns-then-code-low
 returns-then-code-low c =
     let b = c.args.self in
     let code = c.args.code in
     let below : code < 64 = omega arith in
-    grants-taken boxed any_code code b (sized b.low b.high) _ (lt-ltb code 64 below) (no_gap _ _)
+    grants-taken boxed any_code code b (sized b.low b.high) _ (lt-ltb code 64 below) (run_gapless _ _)
     (low-granted b.low b.high code below (omega arith) (omega arith))
     (λ t. absurd (both_ways _ (run_out b.low b.high code (inl (omega arith))) t))
 
@@ -46,7 +47,7 @@ returns-then-high-code c =
     let b = c.args.self in
     let code = c.args.code in
     let below : code < 64 = omega arith in
-    grants-taken boxed any_code code b (sized b.low b.high) _ (lt-ltb code 64 below) (no_gap _ _)
+    grants-taken boxed any_code code b (sized b.low b.high) _ (lt-ltb code 64 below) (run_gapless _ _)
     (high-granted b.low b.high code below (omega arith) (omega arith))
     (λ t. absurd (both_ways _ (run_out b.low b.high code (inr (omega arith))) t))
 

@@ -3,7 +3,8 @@ use Rattle.std.proofs.lemmas.Bool.{both_ways, lt-ltb, le-ltb}
 use Rattle.entry.proofs.Verdicts.{strikes-unknown, strikes-only, strikes-gap, strikes-taken, strikes-idle}
 use Rattle.kinds.specs.Codes.{any_code}
 use Rattle.kinds.specs.Spans.{boxed}
-use Rattle.kinds.specs.SpanFacts.{sized, no_gap, in-run, run_in, run_out, low-struck, high-struck, inner-struck}
+use Rattle.kinds.specs.Laws.{run_gapless, in_run, run_in}
+use Rattle.kinds.proofs.SpanFacts.{sized, run_out, low-struck, high-struck, inner-struck}
 use Rattle.kinds.proofs.boxes.Boxes.struck.Goals as goal
 use Rattle.kinds.proofs.boxes.Boxes.struck.Goals.{then-code-low-via-then-code-low, then-code-low-via-else-code-low+then-high-code}
 
@@ -20,7 +21,7 @@ returns-then-code-low c =
       | then-code-low-via-then-code-low w ↦ inl w.if-code-low.true
       | then-code-low-via-else-code-low+then-high-code w ↦ inr w.if-high-code.true
     ]))
-    (no_gap b.low b.high)
+    (run_gapless b.low b.high)
 
 pub returns-then-low-high : goal.returns-then-low-high
 returns-then-low-high c =
@@ -28,7 +29,7 @@ returns-then-low-high c =
     let code = c.args.code in
     strikes-only boxed any_code code b (sized b.low b.high) (lt-ltb code 64 (omega arith))
     (run_in b.low b.high code (omega arith) (omega arith) (omega arith))
-    (λ k t. omega (arith, (in-run b.low b.high k t).0, (in-run b.low b.high k t).1))
+    (λ k t. omega (arith, (in_run b.low b.high k t).0, (in_run b.low b.high k t).1))
 
 pub returns-then-code-low-2 : goal.returns-then-code-low-2
 returns-then-code-low-2 c =
@@ -37,7 +38,7 @@ returns-then-code-low-2 c =
     let below : code < 64 = omega arith in
     strikes-taken boxed any_code code b (sized b.low b.high) _ (lt-ltb code 64 below)
     (λ _. (b.high, run_in b.low b.high b.high (omega arith) (omega arith) (omega arith), λ e. omega arith))
-    (no_gap _ _)
+    (run_gapless _ _)
     (low-struck b.low b.high code below (omega arith) (omega arith))
     (λ f. absurd (both_ways _ f (run_in b.low b.high code (omega arith) (omega arith) below)))
 
@@ -48,7 +49,7 @@ returns-then-code-high c =
     let below : code < 64 = omega arith in
     strikes-taken boxed any_code code b (sized b.low b.high) _ (lt-ltb code 64 below)
     (λ _. (b.low, run_in b.low b.high b.low (omega arith) (omega arith) (omega arith), λ e. omega arith))
-    (no_gap _ _)
+    (run_gapless _ _)
     (high-struck b.low b.high code below (omega arith) (omega arith))
     (λ f. absurd (both_ways _ f (run_in b.low b.high code (omega arith) (omega arith) below)))
 

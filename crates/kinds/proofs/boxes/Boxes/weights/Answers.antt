@@ -2,7 +2,7 @@ use Rattle.std.proofs.Common.{sym, subst}
 use Rattle.entry.specs.Weights.{Lightest, Heaviest}
 use Rattle.kinds.specs.Spans.{boxed}
 use Rattle.kinds.proofs.Telling.{weights-of}
-use Rattle.kinds.specs.SpanFacts.{lightest-low, heaviest-high, empty-weightless}
+use Rattle.kinds.proofs.SpanFacts.{lightest-low, heaviest-high, empty-weightless}
 use Rattle.kinds.proofs.boxes.Boxes.weights.Goals as goal
 
 pub returns-then-self : goal.returns-then-self

@@ -1,5 +1,5 @@
 use Rattle.std.proofs.Common.{sym, ◌∙◌}
-use Rattle.kinds.specs.CollectionFacts.{held-is, counted-one, counted_none}
+use Rattle.kinds.proofs.CollectionFacts.{held-is, counted-one, counted_none}
 use Rattle.kinds.proofs.collection.Collection.cell.Goals as goal
 use Rattle.kinds.proofs.collection.Collection.cell.Goals.{then-contains, else-contains}
 

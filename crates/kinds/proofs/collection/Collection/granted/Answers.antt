@@ -5,7 +5,7 @@ use Rattle.entry.proofs.CellFacts.{held-known}
 use Rattle.entry.proofs.Verdicts.{grants-unknown, grants-taken}
 use Rattle.kinds.specs.Codes.{any_code}
 use Rattle.kinds.specs.Collections.{collected}
-use Rattle.kinds.specs.CollectionFacts.{weighs, sized, no_gap, held-is, holding, now-granted}
+use Rattle.kinds.proofs.CollectionFacts.{weighs, sized, no_gap, held-is, holding, now-granted}
 use Rattle.kinds.proofs.collection.Collection.granted.Goals as goal
 
 pub returns-then-code-gt63 : goal.returns-then-code-gt63

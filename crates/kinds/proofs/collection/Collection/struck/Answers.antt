@@ -3,7 +3,7 @@ use Rattle.std.proofs.lemmas.Bool.{lt-ltb, le-ltb, both_ways}
 use Rattle.entry.proofs.Verdicts.{strikes-unknown, strikes-only, strikes-taken}
 use Rattle.kinds.specs.Codes.{any_code}
 use Rattle.kinds.specs.Collections.{collected}
-use Rattle.kinds.specs.CollectionFacts.{some-member, sized, no_gap, held-is, holding, now-struck, alone, other}
+use Rattle.kinds.proofs.CollectionFacts.{some-member, sized, no_gap, held-is, holding, now-struck, alone, other}
 use Rattle.kinds.proofs.collection.Collection.struck.Goals as goal
 use Rattle.kinds.proofs.collection.Collection.struck.Goals.{else-is_empty-via-then-is_empty+else-contains, else-is_empty-via-else-is_empty}
 

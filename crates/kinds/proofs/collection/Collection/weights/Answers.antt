@@ -2,7 +2,7 @@ use Rattle.std.proofs.Common.{sym, refl, ◌∙◌}
 use Rattle.std.proofs.lemmas.Bool.{and_parts}
 use Rattle.kinds.specs.Collections.{collected}
 use Rattle.kinds.proofs.Telling.{weights-of}
-use Rattle.kinds.specs.CollectionFacts.{found, heaviest-some, lightest-free, lightest-counted, free-weightless}
+use Rattle.kinds.proofs.CollectionFacts.{found, heaviest-some, lightest-free, lightest-counted, free-weightless}
 use Rattle.kinds.proofs.collection.Collection.weights.Goals as goal
 
 pub returns-in_default-true : goal.returns-in_default-true

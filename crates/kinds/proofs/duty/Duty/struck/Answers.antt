@@ -1,8 +1,8 @@
 use Rattle.std.proofs.Common.{arith}
 use Rattle.std.proofs.lemmas.Bool.{both_ways, not-true, not-false, le-ltb}
 use Rattle.entry.proofs.Verdicts.{strikes-unknown}
-use Rattle.kinds.specs.Duties.{duty-code, duties}
-use Rattle.kinds.specs.DutyFacts.{sized, only-off-struck, only-on-struck, strikes-off, strikes-on}
+use Rattle.kinds.specs.Duties.{duty_code, duties}
+use Rattle.kinds.proofs.DutyFacts.{sized, only-off-struck, only-on-struck, strikes-off, strikes-on}
 use Rattle.kinds.proofs.duty.Duty.struck.Goals as goal
 
 pub returns-in-0 : goal.returns-in-0
@@ -28,4 +28,4 @@ returns-in-1-2-2 c =
 pub returns-in_default : goal.returns-in_default
 returns-in_default c =
     let d = c.args.self in
-    strikes-unknown duties duty-code c.args.code d (sized d.off d.on) (le-ltb c.args.code 2 (omega arith))
+    strikes-unknown duties duty_code c.args.code d (sized d.off d.on) (le-ltb c.args.code 2 (omega arith))

@@ -1,6 +1,6 @@
 use Rattle.kinds.specs.Duties.{duties}
 use Rattle.kinds.proofs.Telling.{weights-of}
-use Rattle.kinds.specs.DutyFacts.{lightest-on, lightest-off, heaviest-on, off-weightless}
+use Rattle.kinds.proofs.DutyFacts.{lightest-on, lightest-off, heaviest-on, off-weightless}
 use Rattle.kinds.proofs.duty.Duty.weights.Goals as goal
 
 pub returns-in_default-false : goal.returns-in_default-false

@@ -1,5 +1,4 @@
 use Rattle.std.proofs.Common.{◌≡◌, ◌+◌, ◌-◌, ◌≤◌, ◌++◌}
-use Rattle.ledger.specs.Ledgers.{rules-of}
 use Rattle.ledger.specs.Rules.{windows}
 use Rattle.ledger.proofs.book.Book.add_windows.Given as goal
 
@@ -7,4 +6,4 @@ use Rattle.ledger.proofs.book.Book.add_windows.Given as goal
 abbrev pub invariant-loop-first : goal.invariant-loop-first
 invariant-loop-first g l =
     (1 ≤ l.first) × (l.first ≤ l.count + 1)
-    × (rules-of l.self ≡ rules-of l.initial.self ++ windows (l.first - 1) l.width l.least l.most)
+    × (l.self ≡ l.initial.self ++ windows (l.first - 1) l.width l.least l.most)

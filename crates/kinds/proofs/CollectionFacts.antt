@@ -8,11 +8,12 @@ use Rattle.codes.proofs.Sets.{member_below}
 use Rattle.entry.specs.Cells.{Meaning, weigh, held, NoGap, Sized}
 use Rattle.entry.specs.Edits.{some, struck, granted}
 use Rattle.entry.specs.Weights.{Lightest, Heaviest}
-use Rattle.entry.proofs.CellFacts.{length-cells, held-cells, weigh-cells, weigh-below, cells-struck, cells-granted, light-gapless}
+use Rattle.entry.proofs.CellFacts.{length-cells, held-cells, weigh-cells, weigh-below, cells-struck, cells-granted, cells-gapless}
 use Rattle.entry.proofs.Tested.{decides-some}
 use Rattle.entry.proofs.Weighing.{attained, weightless}
 use Rattle.kinds.specs.declared.collection.Collection.{Collection}
-use Rattle.kinds.specs.Collections.{collected}
+use Rattle.kinds.specs.Collections.{weight_in, collected}
+use Rattle.kinds.specs.Laws.{counted_light}
 
 -- a member, or none
 pub some-member : (s : CodeSet) → ((c : ℕ) × (member s c ≡ true)) ⊎ ((c : ℕ) → member s c ≡ false)
@@ -35,20 +36,16 @@ module _ (x : Collection) where
   m = collected x
 
   abbrev pub weighs : ℕ → ℕ
-  weighs c = cond (member x.counted c) 1 0
-
-  at_most_one : (b : Bool) → cond b 1 0 ≤ 1
-  at_most_one true = omega arith
-  at_most_one false = omega arith
+  weighs = weight_in (member x.counted)
 
   pub light : (c : ℕ) → weigh m c ≤ 1
-  light = weigh-below weighs (member x.held) 1 (λ c h. at_most_one (member x.counted c))
+  light = weigh-below weighs (member x.held) 1 (λ c h. counted_light (member x.counted c))
 
   pub sized : Sized m
   sized = (length-cells weighs (member x.held), λ c. omega (arith, light c))
 
   pub no_gap : NoGap m
-  no_gap = light-gapless m light
+  no_gap = cells-gapless weighs (member x.held) (λ c. counted_light (member x.counted c))
 
   -- the cells say what the sets do, of every number
   pub held-is : (c : ℕ) → held m c ≡ member x.held c

@@ -6,42 +6,43 @@ use Rattle.std.proofs.lemmas.Bool.Decides.{nat_tests}
 use Rattle.entry.specs.Cells.{Meaning, weigh, held, cells, NoGap, Sized}
 use Rattle.entry.specs.Edits.{struck, granted, Strikes, Grants}
 use Rattle.entry.specs.Weights.{Lightest, Heaviest}
-use Rattle.entry.proofs.CellFacts.{length-cells, held-cells, held-code, weigh-cells, weigh-below, cells-struck, cells-granted, light-gapless}
+use Rattle.entry.proofs.CellFacts.{length-cells, held-cells, held-code, weigh-cells, weigh-below, cells-struck, cells-granted, cells-gapless}
 use Rattle.entry.proofs.Weighing.{attained, weightless}
 use Rattle.entry.proofs.Verdicts.{strikes-only, strikes-taken, grants-taken}
 use Rattle.entry.specs.declared.refusal.Refusal.TheVariants.{OnlyCode}
 use Rattle.kinds.specs.declared.duty.Duty.{Duty}
-use Rattle.kinds.specs.Duties.{duty-code, duties, duty-weight, either}
+use Rattle.kinds.specs.Laws.{duty_light}
+use Rattle.kinds.specs.Duties.{duty_code, duties, duty_weight, either}
 
 module _ (off on : Bool) where
   abbrev m : Meaning
-  m = cells duty-weight (either off on)
+  m = cells duty_weight (either off on)
 
   pub light : (c : ℕ) → weigh m c ≤ 1
-  light = weigh-below duty-weight (either off on) 1 (λ c h. grind (arith, nat_tests))
+  light = weigh-below duty_weight (either off on) 1 (λ c h. duty_light c)
 
   pub sized : Sized m
-  sized = (length-cells duty-weight (either off on), λ c. omega (arith, light c))
+  sized = (length-cells duty_weight (either off on), λ c. omega (arith, light c))
 
   pub no_gap : NoGap m
-  no_gap = light-gapless m light
+  no_gap = cells-gapless duty_weight (either off on) duty_light
 
   -- what is held, and what it weighs
   pub at_off : held m 0 ≡ off
-  at_off = held-cells duty-weight (either off on) 0
+  at_off = held-cells duty_weight (either off on) 0
 
   pub at_on : held m 1 ≡ on
-  at_on = held-cells duty-weight (either off on) 1
+  at_on = held-cells duty_weight (either off on) 1
 
   weigh-off : weigh m 0 ≡ 0
-  weigh-off = weigh-cells duty-weight (either off on) 0
+  weigh-off = weigh-cells duty_weight (either off on) 0
 
   weigh-on : weigh m 1 ≡ 1
-  weigh-on = weigh-cells duty-weight (either off on) 1
+  weigh-on = weigh-cells duty_weight (either off on) 1
 
   pub which : (c : ℕ) → held m c ≡ true → ((c ≡ 0) × (off ≡ true)) ⊎ ((c ≡ 1) × (on ≡ true))
   which c t =
-      let h : either off on c ≡ true = (held-code duty-weight (either off on) c t).1 in
+      let h : either off on c ≡ true = (held-code duty_weight (either off on) c t).1 in
       elim (cases_eq c 0) [
         | inl z ↦ inl (z, sym (cond-true (c == 0) off _ (eq-eqb c 0 z)) ∙ h)
         | inr nz ↦ elim (cases_eq c 1) [
@@ -50,21 +51,17 @@ module _ (off on : Bool) where
         ]
       ]
 
-  -- a held code is known
-  pub held-duty-code : (c : ℕ) → held m c ≡ true → duty-code c ≡ true
-  held-duty-code c t = let h = (held-code duty-weight (either off on) c t).1 in grind (arith, nat_tests)
+  pub off-struck : cells duty_weight (either false on) ≡ struck m 0
+  off-struck = cells-struck duty_weight (either off on) (either false on) 0 (omega arith) (λ k h. grind (arith, nat_tests))
 
-  pub off-struck : cells duty-weight (either false on) ≡ struck m 0
-  off-struck = cells-struck duty-weight (either off on) (either false on) 0 (omega arith) (λ k h. grind (arith, nat_tests))
+  pub on-struck : cells duty_weight (either off false) ≡ struck m 1
+  on-struck = cells-struck duty_weight (either off on) (either off false) 1 (omega arith) (λ k h. grind (arith, nat_tests))
 
-  pub on-struck : cells duty-weight (either off false) ≡ struck m 1
-  on-struck = cells-struck duty-weight (either off on) (either off false) 1 (omega arith) (λ k h. grind (arith, nat_tests))
+  pub off-granted : cells duty_weight (either true on) ≡ granted m 0
+  off-granted = cells-granted duty_weight (either off on) (either true on) 0 (omega arith) (λ k h. grind (arith, nat_tests))
 
-  pub off-granted : cells duty-weight (either true on) ≡ granted m 0
-  off-granted = cells-granted duty-weight (either off on) (either true on) 0 (omega arith) (λ k h. grind (arith, nat_tests))
-
-  pub on-granted : cells duty-weight (either off true) ≡ granted m 1
-  on-granted = cells-granted duty-weight (either off on) (either off true) 1 (omega arith) (λ k h. grind (arith, nat_tests))
+  pub on-granted : cells duty_weight (either off true) ≡ granted m 1
+  on-granted = cells-granted duty_weight (either off on) (either off true) 1 (omega arith) (λ k h. grind (arith, nat_tests))
 
   pub heaviest-on : on ≡ true → Heaviest m 1
   heaviest-on t = attained 1 (at_on ∙ t) weigh-on (λ c _. light c)
@@ -93,42 +90,42 @@ module _ (d : Duty) where
   on-is : held (duties d) 1 ≡ d.on
   on-is = at_on d.off d.on
 
-  pub only-off-struck : d.off ≡ true → d.on ≡ false → Strikes duties duty-code 0 d (Err OnlyCode) d
+  pub only-off-struck : d.off ≡ true → d.on ≡ false → Strikes duties duty_code 0 d (Err OnlyCode) d
   only-off-struck t f =
-      strikes-only duties duty-code 0 d fits refl (off-is ∙ t)
+      strikes-only duties duty_code 0 d fits refl (off-is ∙ t)
       (λ k h. elim (which d.off d.on k h) [ inl z ↦ z.0 | inr o ↦ absurd (both_ways d.on f o.1) ])
 
-  pub only-on-struck : d.on ≡ true → d.off ≡ false → Strikes duties duty-code 1 d (Err OnlyCode) d
+  pub only-on-struck : d.on ≡ true → d.off ≡ false → Strikes duties duty_code 1 d (Err OnlyCode) d
   only-on-struck t f =
-      strikes-only duties duty-code 1 d fits refl (on-is ∙ t)
+      strikes-only duties duty_code 1 d fits refl (on-is ∙ t)
       (λ k h. elim (which d.off d.on k h) [ inl z ↦ absurd (both_ways d.off f z.1) | inr o ↦ o.0 ])
 
-  pub strikes-off : (d.off ≡ true → d.on ≡ true) → Strikes duties duty-code 0 d (Ok tt) (record { off = false; on = d.on })
+  pub strikes-off : (d.off ≡ true → d.on ≡ true) → Strikes duties duty_code 0 d (Ok tt) (record { off = false; on = d.on })
   strikes-off both =
-      strikes-taken duties duty-code 0 d fits _ refl
+      strikes-taken duties duty_code 0 d fits _ refl
       (λ t. (1, on-is ∙ both (sym off-is ∙ t), λ e. omega arith))
       (no_gap false d.on) (off-struck d.off d.on)
       (λ f i. record { off = (sym f ∙ off-is) i; on = d.on })
 
-  pub strikes-on : (d.on ≡ true → d.off ≡ true) → Strikes duties duty-code 1 d (Ok tt) (record { off = d.off; on = false })
+  pub strikes-on : (d.on ≡ true → d.off ≡ true) → Strikes duties duty_code 1 d (Ok tt) (record { off = d.off; on = false })
   strikes-on both =
-      strikes-taken duties duty-code 1 d fits _ refl
+      strikes-taken duties duty_code 1 d fits _ refl
       (λ t. (0, off-is ∙ both (sym on-is ∙ t), λ e. omega arith))
       (no_gap d.off false) (on-struck d.off d.on)
       (λ f i. record { off = d.off; on = (sym f ∙ on-is) i })
 
-  pub grants-off : Grants duties duty-code 0 d (Ok tt) (record { off = true; on = d.on })
+  pub grants-off : Grants duties duty_code 0 d (Ok tt) (record { off = true; on = d.on })
   grants-off =
-      grants-taken duties duty-code 0 d fits _ refl (no_gap true d.on) (off-granted d.off d.on)
+      grants-taken duties duty_code 0 d fits _ refl (no_gap true d.on) (off-granted d.off d.on)
       (λ t i. record { off = (sym t ∙ off-is) i; on = d.on })
 
-  pub grants-on : Grants duties duty-code 1 d (Ok tt) (record { off = d.off; on = true })
+  pub grants-on : Grants duties duty_code 1 d (Ok tt) (record { off = d.off; on = true })
   grants-on =
-      grants-taken duties duty-code 1 d fits _ refl (no_gap d.off true) (on-granted d.off d.on)
+      grants-taken duties duty_code 1 d fits _ refl (no_gap d.off true) (on-granted d.off d.on)
       (λ t i. record { off = d.off; on = (sym t ∙ on-is) i })
 
 -- what holds known codes alone is told by codes 0 and 1
-pub either_is : (holds : ℕ → Bool) (off on : Bool) → off ≡ holds 0 → on ≡ holds 1 → ((c : ℕ) → holds c ≡ true → duty-code c ≡ true) → (c : ℕ) → either off on c ≡ holds c
+pub either_is : (holds : ℕ → Bool) (off on : Bool) → off ≡ holds 0 → on ≡ holds 1 → ((c : ℕ) → holds c ≡ true → duty_code c ≡ true) → (c : ℕ) → either off on c ≡ holds c
 either_is holds off on e o known c =
     elim (cases_eq c 0) [
       | inl z ↦ rw z e

@@ -8,45 +8,29 @@ use Rattle.entry.specs.Edits.{struck, granted}
 use Rattle.entry.specs.Weights.{Lightest, Heaviest}
 use Rattle.entry.proofs.CellFacts.{length-cells, held-code, code-held, code-not, weigh-below, weigh-cells, weigh-marked, cells-struck, cells-granted, struck-stays, struck-was, granted-stays, granted-was}
 use Rattle.entry.proofs.Weighing.{attained, weightless}
+use Rattle.kinds.specs.Laws.{in_run, run_in, run_gapless}
 use Rattle.kinds.specs.Spans.{spans, spanned}
 
 module _ (low high : ℕ) where
   pub sized : Sized (spanned low high)
   sized = (length-cells (λ c. c) (spans low high), weigh-below (λ c. c) (spans low high) 63 (λ c h. omega arith))
 
-  -- a held code lies in the run, and weighs its number
-  pub in-run : (c : ℕ) → held (spanned low high) c ≡ true → (low ≤ c) × (c ≤ high) × (c < 64) × (weigh (spanned low high) c ≡ c)
-  in-run c t =
-      let code = held-code (λ k. k) (spans low high) c t in
-      let ends = and_parts (nat_le low c) (nat_le c high) code.1 in
-      (leb-true low c ends.0, leb-true c high ends.1, code.0, code.2)
-
-  pub run_in : (c : ℕ) → low ≤ c → c ≤ high → c < 64 → held (spanned low high) c ≡ true
-  run_in c p q h = code-held (λ k. k) (spans low high) c h (and_from (nat_le low c) (nat_le c high) (le-leb low c p) (le-leb c high q))
-
   pub run_out : (c : ℕ) → (c < low) ⊎ (high < c) → held (spanned low high) c ≡ false
   run_out c side =
       code-not (λ k. k) (spans low high) c (elim side [ inl s ↦ grind (arith, nat_tests) | inr s ↦ grind (arith, nat_tests) ])
 
-  pub no_gap : NoGap (spanned low high)
-  no_gap a b w ha hb la lb =
-      let p = in-run a ha in
-      let q = in-run b hb in
-      let h = run_in w (omega arith) (omega arith) (omega arith) in
-      (w, h, (in-run w h).3)
-
   pub lightest-low : low ≤ high → high ≤ 63 → Lightest (spanned low high) low
   lightest-low p q =
-      let h = run_in low (omega arith) p (omega arith) in
-      attained low h (in-run low h).3 (λ c t. omega (arith, (in-run c t).0, (in-run c t).3))
+      let h = run_in low high low (omega arith) p (omega arith) in
+      attained low h (in_run low high low h).3 (λ c t. omega (arith, (in_run low high c t).0, (in_run low high c t).3))
 
   pub heaviest-high : low ≤ high → high ≤ 63 → Heaviest (spanned low high) high
   heaviest-high p q =
-      let h = run_in high p (omega arith) (omega arith) in
-      attained high h (in-run high h).3 (λ c t. omega (arith, (in-run c t).1, (in-run c t).3))
+      let h = run_in low high high p (omega arith) (omega arith) in
+      attained high h (in_run low high high h).3 (λ c t. omega (arith, (in_run low high c t).1, (in_run low high c t).3))
 
   pub none-held : high < low → (c : ℕ) → held (spanned low high) c ≢ true
-  none-held p c t = omega (arith, (in-run c t).0, (in-run c t).1)
+  none-held p c t = omega (arith, (in_run low high c t).0, (in_run low high c t).1)
 
   pub empty-weightless : high < low → Lightest (spanned low high) 0 × Heaviest (spanned low high) 0
   empty-weightless p = weightless (spanned low high) (λ c t. absurd (none-held p c t))
@@ -68,15 +52,15 @@ module _ (low high : ℕ) where
     -- a code between the ends cannot
     pub inner-struck : low < c → c < high → high ≤ 63 → NoGap (struck m c) → ⊥
     inner-struck p q top whole =
-        let a = run_in low (omega arith) (omega arith) (omega arith) in
-        let b = run_in high (omega arith) (omega arith) (omega arith) in
+        let a = run_in low high low (omega arith) (omega arith) (omega arith) in
+        let b = run_in low high high (omega arith) (omega arith) (omega arith) in
         let found = whole low high c
         (struck-stays m c inside low a (λ e. omega arith))
         (struck-stays m c inside high b (λ e. omega arith))
-        (omega (arith, weigh-marked m c false low, (in-run low a).3))
-        (omega (arith, weigh-marked m c false high, (in-run high b).3)) in
+        (omega (arith, weigh-marked m c false low, (in_run low high low a).3))
+        (omega (arith, weigh-marked m c false high, (in_run low high high b).3)) in
         let was = struck-was m c inside found.0 found.1 in
-        was.1 (omega (arith, found.2, weigh-marked m c false found.0, (in-run found.0 was.0).3))
+        was.1 (omega (arith, found.2, weigh-marked m c false found.0, (in_run low high found.0 was.0).3))
 
     -- a code beside an end can come
     pub low-granted : c + 1 ≡ low → low ≤ high → spanned c high ≡ granted m c
@@ -91,21 +75,21 @@ module _ (low high : ℕ) where
     -- one further off cannot
     pub outer-granted : low ≤ high → high ≤ 63 → (c + 1 < low) ⊎ (high + 1 < c) → NoGap (granted m c) → ⊥
     outer-granted p top side whole =
-        let a = run_in low (omega arith) p (omega arith) in
-        let b = run_in high p (omega arith) (omega arith) in
+        let a = run_in low high low (omega arith) p (omega arith) in
+        let b = run_in low high high p (omega arith) (omega arith) in
         let weighs : weigh m c ≡ c = weigh-cells (λ k. k) (spans low high) c ∙ cond-true (nat_lt c 64) c 0 (lt-ltb c 64 below) in
         let here = granted-stays m c inside c (inr refl) in
         let gone : (w : ℕ) → (w < low) ⊎ (high < w) → (w ≢ c) → ((k : ℕ) × (held (granted m c) k ≡ true) × (weigh (granted m c) k ≡ w)) → ⊥ =
         λ w out other found. elim (granted-was m c inside found.0 found.1) [
           | inl h ↦ elim out [
-            | inl s ↦ omega (arith, found.2, weigh-marked m c true found.0, (in-run found.0 h).0, (in-run found.0 h).3)
-            | inr s ↦ omega (arith, found.2, weigh-marked m c true found.0, (in-run found.0 h).1, (in-run found.0 h).3)
+            | inl s ↦ omega (arith, found.2, weigh-marked m c true found.0, (in_run low high found.0 h).0, (in_run low high found.0 h).3)
+            | inr s ↦ omega (arith, found.2, weigh-marked m c true found.0, (in_run low high found.0 h).1, (in_run low high found.0 h).3)
           ]
           | inr e ↦ other (sym found.2 ∙ weigh-marked m c true found.0 ∙ ap (weigh m) e ∙ weighs)
         ] in
         elim side [
           | inl s ↦ gone (c + 1) (inl s) (λ e. omega arith) (whole c low (c + 1) here (granted-stays m c inside low (inl a))
-              (omega (arith, weigh-marked m c true c, weighs)) (omega (arith, weigh-marked m c true low, (in-run low a).3)))
+              (omega (arith, weigh-marked m c true c, weighs)) (omega (arith, weigh-marked m c true low, (in_run low high low a).3)))
           | inr s ↦ gone (high + 1) (inr (omega arith)) (λ e. omega arith) (whole high c (high + 1) (granted-stays m c inside high (inl b)) here
-              (omega (arith, weigh-marked m c true high, (in-run high b).3)) (omega (arith, weigh-marked m c true c, weighs)))
+              (omega (arith, weigh-marked m c true high, (in_run low high high b).3)) (omega (arith, weigh-marked m c true c, weighs)))
         ]
