@@ -1,7 +1,6 @@
-ghost use Rattle.std.specs.Prelude.{length};
-ghost use Rattle.codes.specs.Coming.{coming, Gives};
+ghost use Rattle.std.specs.Iterator.{YieldsFirst, item_count};
+ghost use Rattle.codes.specs.Coming.{coming};
 ghost use Rattle.codes.specs.Members.{Listing};
-ghost use Rattle.std.specs.Iterator.{at_most};
 
 use crate::set::CodeSet;
 
@@ -24,9 +23,9 @@ impl Iterator for Codes {
 
     ghost can_next = { λ _. Unit {0} };
 
-    ghost next_gives = { Gives };
+    ghost next_gives = { YieldsFirst coming };
 
-    ghost remaining = { λ i. at_most (length (coming i)) };
+    ghost remaining = { item_count coming };
 
     fn next(&mut self) -> Option<u32> {
         let (code, rest) = self.rest.split_first()?;

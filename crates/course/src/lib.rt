@@ -1,4 +1,6 @@
 // A course of calls on one plan.
+#![tactic(auto)]
+
 ghost use Rattle.std.specs.Prelude.{◌≡◌};
 ghost use Rattle.ledger.specs.Ledgers.{ledger, after};
 ghost use Rattle.course.specs.Runs.{Starts, Good, Run};

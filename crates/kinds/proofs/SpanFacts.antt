@@ -1,14 +1,14 @@
 -- What a run of codes holds, and what a strike or a grant makes of it.
-use Rattle.std.specs.Prelude.{◌≡◌, ℕ, ◌+◌, ◌-◌, ◌<◌, ◌≤◌, true, false, ◌⊎◌, length, ◌≢◌, nat_le, nat_lt, refl}
+use Rattle.std.specs.Prelude.{◌≡◌, ℕ, ◌+◌, ◌-◌, ◌<◌, ◌≤◌, true, false, ◌⊎◌, length, ◌≢◌, nat_lt, refl}
 use Rattle.std.proofs.Common.{sym, ap, ◌∙◌, inl, inr, arith}
-use Rattle.std.proofs.lemmas.Bool.{and_parts, leb-true, le-leb, and_from, cond-true, lt-ltb}
+use Rattle.std.proofs.lemmas.Bool.{cond-true, lt-ltb}
 use Rattle.std.proofs.lemmas.Bool.Decides.{nat_tests}
 use Rattle.entry.specs.Cells.{Meaning, weigh, held, NoGap, Sized}
 use Rattle.entry.specs.Edits.{struck, granted}
 use Rattle.entry.specs.Weights.{Lightest, Heaviest}
-use Rattle.entry.proofs.CellFacts.{length-cells, held-code, code-held, code-not, weigh-below, weigh-cells, weigh-marked, cells-struck, cells-granted, struck-stays, struck-was, granted-stays, granted-was}
+use Rattle.entry.proofs.CellFacts.{length-cells, code-not, weigh-below, weigh-cells, weigh-marked, cells-struck, cells-granted, struck-stays, struck-was, granted-stays, granted-was}
 use Rattle.entry.proofs.Weighing.{attained, weightless}
-use Rattle.kinds.specs.Laws.{in_run, run_in, run_gapless}
+use Rattle.kinds.specs.Laws.{in_run, run_in}
 use Rattle.kinds.specs.Spans.{spans, spanned}
 
 module _ (low high : ℕ) where

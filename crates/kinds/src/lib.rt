@@ -1,4 +1,6 @@
 // The kinds of entry: duty, collection and boxes.
+#![tactic(auto)]
+
 pub mod boxes;
 mod cell;
 pub mod collection;

@@ -1,4 +1,6 @@
 // A caller's roster held against entries and book.
+#![tactic(auto)]
+
 mod faults;
 pub mod finding;
 mod stretches;

@@ -1,5 +1,7 @@
 // A reviewer's week: set up, narrowed when a donor closes the drafts, and opened again by grants. Then a fortnight: its
 // rules, and rosters checked against them.
+#![tactic(auto)]
+
 mod fortnight;
 mod refusals;
 mod week;

@@ -13,8 +13,8 @@ loop-code-preserved c = λ k.
     let set = c.args.set in
     let xs = c.loop-code.yielded in
     let code = c.in-Some.code in
-    let listing = subst (λ i. Listing set (coming i)) (sym c.into-iter-code-iterator.ensures.into-iter-gives) c.codes-code-items.ensures in
-    let held = comes set c.into-iter-code-iterator.result xs c.loop-code.code-iterator c.next.new.self code listing c.loop-code.yielded-by c.in-Some.ensures.steps in
+    let listing = subst (λ i. Listing set (coming i)) (sym c.into_iter-code-iterator.ensures.into_iter_gives) c.codes-code-items.ensures in
+    let held = comes set c.into_iter-code-iterator.result xs c.loop-code.code-iterator c.next.new.self code listing c.loop-code.yielded_by c.in-Some.ensures.steps in
     let low = member_below set code held in
     let now : member c.with-all.result k ≡ (member c.loop-code.all k || eqb k code) = c.with-all.ensures.each k ∙ grind (arith, nat_tests) in
     Decides-at _ _ now
@@ -26,6 +26,6 @@ pub returns : goal.returns
 returns c = λ k.
     let xs = c.loop-code.yielded in
     let all : coming c.codes-code-items.result ≡ xs =
-    ap coming (sym c.into-iter-code-iterator.ensures.into-iter-gives) ∙ came c.into-iter-code-iterator.result xs c.loop-code.code-iterator c.loop-code.yielded-by
+    ap coming (sym c.into_iter-code-iterator.ensures.into_iter_gives) ∙ came c.into_iter-code-iterator.result xs c.loop-code.code-iterator c.loop-code.yielded_by
     ∙ ap (λ ys. xs ++ ys) c.in-None.ensures.steps.0 ∙ append-nil xs in
     same_from_decides _ _ (c.loop-code.invariant k) (subst (λ ys. Decides (member c.args.set k) (Has ys k)) all (c.codes-code-items.ensures.exact k))
