@@ -1,11 +1,12 @@
 -- The places of a range that pass a test, as a list in rising order: the first of them, the others, and how many there are.
-use Rattle.std.proofs.Common.{◌≡◌, ℕ, zero, suc, ◌+◌, ◌/◌, ◌%◌, ◌^◌, ◌<◌, ◌≤◌, Bool, true, false, cond, not, ◌&&◌, eqb, List, [], ◌∷◌, length, Some, Decides, filter, sym, refl, ap, ◌∙◌, subst, ap₂, ⊎_elim, add-zero, suc-add, pow-suc, zero-add, arith}
+use Rattle.std.proofs.Common.{◌≡◌, ℕ, zero, suc, ◌+◌, ◌/◌, ◌%◌, ◌^◌, ◌<◌, ◌≤◌, Bool, true, false, cond, not, ◌&&◌, eqb, List, [], ◌∷◌, length, Some, Decides, filter, sym, refl, ap, ◌∙◌, subst, ap₂, ⊎_elim, add-zero, pow-suc, zero-add, arith}
 use lib.Arith.{lt-one}
 use lib.Count.{ones, ones_step, count_trailing_zeros, under}
-use Rattle.std.specs.List.{slice_get, range_with_len, ContainsAt as Has, AllByRecursion as All}
+use Rattle.std.specs.List.{slice_get, range_with_len, Contains}
 use Rattle.std.specs.List.Sorted.{IsStrictlyIncreasing}
 use Rattle.std.proofs.lemmas.List.FromFn.{length-range_with_len, get_or-range_with_len}
-use Rattle.std.proofs.ByRecursion.{has_get_or, has_append_right, all-has, All-get_or, all_kept_by, kept_by_passes}
+use Rattle.std.proofs.lemmas.List.Elements.{Contains-append_right, All-contains, filter_passes}
+use Rattle.std.proofs.lemmas.List.Kept.{IsStrictlyIncreasing-filter}
 use Rattle.std.proofs.lemmas.Bool.{cases_Bool, cases_eq, cond_both, cond-true, cond-false, true≢false}
 use Rattle.std.proofs.lemmas.Bool.Decides.{nat_tests}
 use Rattle.codes.specs.Members.{bit}
@@ -97,34 +98,27 @@ first-and-rest p q a k x e h =
 
 -- ---- what is listed passes, what passes is listed, and the list rises
 
-has-counting : (a k c : ℕ) → c < k → Has (range_with_len a k) (a + c)
-has-counting a k c h = subst (Has (range_with_len a k)) (get_or-range_with_len a k c 0 h) (has_get_or (range_with_len a k) c 0 (rw length-range_with_len h))
+filter-keeps : (p : ℕ → Bool) (xs : List ℕ) (x : ℕ) → p x ≡ true → Contains xs x → Contains (filter p xs) x
+filter-keeps p [] x t (k, l, e) = absurd (omega arith)
+filter-keeps p (y ∷ ys) x t (zero, l, e) =
+    subst (λ b. Contains (cond b (y ∷ filter p ys) (filter p ys)) x) (sym (ap p e ∙ t)) (zero, omega arith, e)
+filter-keeps p (y ∷ ys) x t (suc k, l, e) =
+    let h = filter-keeps p ys x t (k, omega arith, e) in
+    cond_both (p y) (y ∷ filter p ys) (filter p ys) (λ zs. Contains zs x) (λ _. Contains-append_right (y ∷ []) (filter p ys) x h) (λ _. h)
 
-has_kept : (p : ℕ → Bool) (xs : List ℕ) (x : ℕ) → p x ≡ true → Has xs x → Has (filter p xs) x
-has_kept p [] x t (k, l, e) = absurd (omega arith)
-has_kept p (y ∷ ys) x t (zero, l, e) =
-    subst (λ b. Has (cond b (y ∷ filter p ys) (filter p ys)) x) (sym (ap p (e y) ∙ t)) (zero, omega arith, e)
-has_kept p (y ∷ ys) x t (suc k, l, e) =
-    let h = has_kept p ys x t (k, omega arith, e) in
-    cond_both (p y) (y ∷ filter p ys) (filter p ys) (λ zs. Has zs x) (λ _. has_append_right (y ∷ []) (filter p ys) x h) (λ _. h)
-
-pub listed : (p : ℕ → Bool) (k c : ℕ) → (p c ≡ true → c < k) → Decides (p c) (Has (filter p (range_with_len 0 k)) c)
-listed p k c b = (
-  λ t. has_kept p (range_with_len 0 k) c t (subst (Has (range_with_len 0 k)) (zero-add c) (has-counting 0 k c (b t))),
-  λ h. all-has (λ x. p x ≡ true) (filter p (range_with_len 0 k)) c (kept_by_passes p (range_with_len 0 k)) h,
-)
-
-climbs-after : (x : ℕ) (xs : List ℕ) → All (λ y. x < y) xs → IsStrictlyIncreasing xs → IsStrictlyIncreasing (x ∷ xs)
-climbs-after x xs h t zero l = All-get_or (λ y. x < y) xs 0 0 (omega arith) h
-climbs-after x xs h t (suc k) l = rw suc-add (t k (omega arith))
-
-from : (a b k : ℕ) → a ≤ b → All (λ y. a ≤ y) (range_with_len b k)
-from a b zero h = tt
-from a b (suc k) h = (h, from a (b + 1) k (omega arith))
+pub listed : (p : ℕ → Bool) (k c : ℕ) → (p c ≡ true → c < k) → Decides (p c) (Contains (filter p (range_with_len 0 k)) c)
+listed p k c below =
+    let all = range_with_len 0 k in (
+      λ t.
+          let h = below t in
+          filter-keeps p all c t (c, rw length-range_with_len h, get_or-range_with_len 0 k c c h ∙ zero-add c),
+      λ h. All-contains (λ x. p x ≡ true) (filter p all) c (filter_passes p all) h,
+    )
 
 pub listed-climbs : (p : ℕ → Bool) (a k : ℕ) → IsStrictlyIncreasing (filter p (range_with_len a k))
-listed-climbs p a zero = λ k l. absurd (omega arith)
-listed-climbs p a (suc k) =
-    let xs = filter p (range_with_len (a + 1) k) in
-    let t = listed-climbs p (a + 1) k in
-    cond_both (p a) (a ∷ xs) xs IsStrictlyIncreasing (λ _. climbs-after a xs (all_kept_by p (λ y. a < y) (range_with_len (a + 1) k) (from (suc a) (a + 1) k (omega arith))) t) (λ _. t)
+listed-climbs p a k = IsStrictlyIncreasing-filter p (range_with_len a k) (counting-climbs a k)
+  where
+    counting-climbs : (a k : ℕ) → IsStrictlyIncreasing (range_with_len a k)
+    counting-climbs a k i h =
+        let l = length-range_with_len a k in
+        omega (arith, get_or-range_with_len a k i 0 (omega arith), get_or-range_with_len a k (i + 1) 0 (omega arith))

@@ -2,7 +2,7 @@
 use Rattle.std.proofs.Common.{◌≡◌, ℕ, ◌+◌, ◌^◌, ◌<◌, true, false, not, ◌&&◌, eqb, ltb, [], ◌∷◌, Some, Decides, sym, refl, ap, ◌∙◌, subst, ⊎_elim, zero-le, zero-add, arith, pow_pos}
 use borrow.Author.Numbers.{trailing_lt}
 use lib.Count.{count_trailing_zeros}
-use Rattle.std.specs.List.{slice_get, ContainsAt as Has}
+use Rattle.std.specs.List.{slice_get, Contains}
 use Rattle.std.specs.List.Sorted.{IsStrictlyIncreasing}
 use Rattle.std.proofs.lemmas.Bool.{lt-ltb, ltb-true, eqb-true, eq-eqb, and_parts, cases_Bool}
 use Rattle.codes.specs.declared.set.CodeSet.{CodeSet}
@@ -36,7 +36,7 @@ pub first-and-others : (s t : CodeSet) (x : ℕ) → slice_get (members s) 0 ≡
 unfolding members
 first-and-others s t x e h = first-and-rest (member s) (member t) 0 64 x e h
 
-members-listed : (s : CodeSet) (c : ℕ) → Decides (member s c) (Has (members s) c)
+members-listed : (s : CodeSet) (c : ℕ) → Decides (member s c) (Contains (members s) c)
 unfolding members
 members-listed s c = listed (member s) 64 c (member_below s c)
 
@@ -49,7 +49,7 @@ listing s = record { all = refl; exact = members-listed s; rising = members-clim
 
 none-in-nil : (s : CodeSet) → members s ≡ [] → (c : ℕ) → member s c ≡ false
 none-in-nil s e c =
-    ⊎_elim (λ t. let h = subst (λ xs. Has xs c) e ((members-listed s c).0 t) in absurd (omega (arith, h.1))) (λ f. f) (cases_Bool (member s c))
+    ⊎_elim (λ t. let h = subst (λ xs. Contains xs c) e ((members-listed s c).0 t) in absurd (omega (arith, h.1))) (λ f. f) (cases_Bool (member s c))
 
 -- ---- what a set's word says of it
 

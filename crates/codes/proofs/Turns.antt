@@ -1,8 +1,8 @@
 -- A loop over the codes of a set: what came and what is to come is the whole list, and what comes is a member.
-use Rattle.std.proofs.Common.{◌≡◌, ℕ, true, List, [], ◌∷◌, ◌++◌, sym, ap, ◌∙◌, subst, arith}
+use Rattle.std.proofs.Common.{◌≡◌, ℕ, true, List, [], ◌∷◌, ◌++◌, sym, refl, ap, ◌∙◌, subst, arith}
 use Rattle.std.specs.Iterator.{Yields, YieldsFirst}
-use Rattle.std.specs.List.{ContainsAt as Has}
-use Rattle.std.proofs.ByRecursion.{has_append_right, has_get_or}
+use Rattle.std.specs.List.{Contains}
+use Rattle.std.proofs.lemmas.List.Elements.{Contains-append_right}
 use Rattle.codes.specs.declared.iter.Codes.{Codes}
 use Rattle.codes.specs.declared.set.CodeSet.{CodeSet}
 use Rattle.codes.specs.Coming.{coming}
@@ -16,5 +16,5 @@ pub comes : (s : CodeSet) (i : Codes) (xs : List ℕ) (j k : Codes) (code : ℕ)
     → Listing s (coming i) → Yields (YieldsFirst coming) i xs j → coming j ≡ code ∷ coming k → member s code ≡ true
 comes s i xs j k code h y e =
     let whole = came i xs j y ∙ ap (λ ys. xs ++ ys) e in
-    let found = has_append_right xs (code ∷ coming k) code (has_get_or (code ∷ coming k) 0 code (omega arith)) in
-    (h.exact code).1 (subst (λ ys. Has ys code) (sym whole) found)
+    let found = Contains-append_right xs (code ∷ coming k) code (0, omega arith, refl) in
+    (h.exact code).1 (subst (λ ys. Contains ys code) (sym whole) found)

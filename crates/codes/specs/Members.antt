@@ -1,6 +1,6 @@
 -- Which codes a set has as members, and the list of them in rising order.
-use Rattle.std.specs.Prelude.{◌≡◌, ℕ, ◌/◌, ◌%◌, ◌^◌, Bool, ◌&&◌, List, IsTrue, ◌↔◌, filter, ◌==◌, nat_lt}
-use Rattle.std.specs.List.{range_with_len, ContainsAt as Has}
+use Rattle.std.specs.Prelude.{◌≡◌, ℕ, ◌/◌, ◌%◌, ◌^◌, Bool, ◌&&◌, List, IsTrue, ◌↔◌, Contains, filter, ◌==◌, nat_lt}
+use Rattle.std.specs.List.{range_with_len}
 use Rattle.std.specs.List.Sorted.{IsStrictlyIncreasing}
 use Rattle.codes.specs.declared.set.CodeSet.{CodeSet}
 
@@ -18,5 +18,5 @@ members s = filter (member s) (range_with_len 0 64)
 -- xs has the members of s and no other code, and rises
 pub record Listing (s : CodeSet) (xs : List ℕ) : Type 0 where
   pub all : xs ≡ members s
-  pub exact : (c : ℕ) → (IsTrue (member s c) ↔ Has xs c)
+  pub exact : (c : ℕ) → (IsTrue (member s c) ↔ Contains xs c)
   pub rising : IsStrictlyIncreasing xs

@@ -1,27 +1,27 @@
 -- What adding and withdrawing rules makes of a book.
 use Rattle.std.proofs.Common.{◌≡◌, ℕ, zero, suc, ◌+◌, ◌-◌, ◌*◌, ◌<◌, ◌≤◌, false, cond, eqb, List, [], ◌++◌, length, Some, None, Ok, sym, refl, ap, subst, arith, length-append, length-set}
-use Rattle.std.specs.List.{range_with_len, AllByRecursion as All}
+use Rattle.std.specs.List.{range_with_len, All}
 use Rattle.std.proofs.lemmas.List.FromFn.{length-map-range_with_len, get_or-map-range_with_len}
-use Rattle.std.proofs.ByRecursion.{All-from_get_or}
+use Rattle.std.proofs.lemmas.List.Elements.{All-from_get_or}
 use Rattle.std.proofs.lemmas.List.{get_or_append_left}
 use Rattle.std.proofs.lemmas.Bool.Decides.{nat_tests}
 use Rattle.ledger.specs.declared.rule.Rule.{Rule}
 use Rattle.ledger.specs.Ledgers.{ranging}
 use Rattle.ledger.specs.Rules.{made, windows, no_rule, numbered, stands, ended, withdrawn}
-use Rattle.course.specs.Runs.{given_by, Fits}
+use Rattle.course.specs.Runs.{given_by, FitsPlan}
 use Rattle.course.proofs.Lists.{at_set}
 
 -- each window of the days fits
 pub windows-fit : (days top width least most : ℕ) → 0 < width → least ≤ most → most ≤ top * width
-    → All (Fits days top) (windows (days + 1 - width) width least most)
+    → All (FitsPlan days top) (windows (days + 1 - width) width least most)
 windows-fit days top width least most wide order can =
     let count = days + 1 - width in
     let rule : ℕ → Rule = λ first. made first (first + width - 1) least most in
     let long = length-map-range_with_len rule 1 count in
-    All-from_get_or (Fits days top) (windows count width least most) no_rule
+    All-from_get_or (FitsPlan days top) (windows count width least most) no_rule
     (λ i h.
     let back : width ≡ i + 1 + width - 1 - (i + 1) + 1 = omega arith in
-    subst (Fits days top) (sym (get_or-map-range_with_len rule 1 count i (i + 1) no_rule (omega arith) (omega arith)))
+    subst (FitsPlan days top) (sym (get_or-map-range_with_len rule 1 count i (i + 1) no_rule (omega arith) (omega arith)))
     (λ _. (omega arith, omega arith, omega arith, order, subst (λ n. most ≤ top * n) back can)))
 
 -- the numbers that a slide gives out

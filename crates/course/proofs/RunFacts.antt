@@ -1,13 +1,13 @@
 -- What a list of calls makes of a ledger.
-use Rattle.std.proofs.Common.{◌≡◌, ℕ, ◌+◌, ◌-◌, ◌<◌, Bool, true, false, cond, ◌⊎◌, List, [], ◌∷◌, ◌++◌, length, get_or, drop, sym, refl, ap, ◌∙◌, subst, inl, inr, arith}
-use Rattle.std.specs.List.{range_with_len, ContainsAt as Has, AllByRecursion as All}
-use Rattle.std.proofs.ByRecursion.{All-weaker, All-map, all_has_itself}
+use Rattle.std.proofs.Common.{◌≡◌, ℕ, ◌+◌, ◌-◌, ◌<◌, Bool, true, false, cond, ◌⊎◌, List, [], ◌∷◌, ◌++◌, length, map, get_or, drop, sym, refl, ap, ◌∙◌, subst, inl, inr, arith}
+use Rattle.std.specs.List.{range_with_len, All}
+use Rattle.std.proofs.lemmas.List.Elements.{All-nil, All-head, All-tail, All-map}
 use Rattle.std.proofs.lemmas.List.{at_drop_more}
 use Rattle.entry.specs.Cells.{Meaning}
 use Rattle.ledger.specs.Rules.{Book}
 use Rattle.ledger.specs.declared.call.Call.{Call}
 use Rattle.ledger.specs.Ledgers.{Ledger, ledger, after, after_all}
-use Rattle.course.specs.Runs.{Whole, Good, Starts, Run, given, taken}
+use Rattle.course.specs.Runs.{Edits, Whole, FitsPlan, Good, Starts, Run, given, taken}
 use Rattle.course.proofs.Lists.{counting-on}
 use Rattle.course.proofs.RuleFacts.{none-given}
 use Rattle.course.proofs.Steps.{step_of}
@@ -48,7 +48,9 @@ run_of l (call ∷ calls) =
       kind = r.kind ∙ s.kind;
       days = r.days ∙ s.days;
       weights = λ day code. r.weights day code ∙ s.weights day code;
-      others = λ day from none. r.others day from none.1 ∙ s.others day from none.0;
+      others = λ day from none.
+          let P : Call → Type 0 = λ c. Edits c day → ⊥ in
+          r.others day from (All-tail P call calls none) ∙ s.others day from (All-head P call calls none);
       grows = omega arith;
       numbers =
           ap (λ ns. ns ++ given m calls) s.numbers ∙ ap (λ ns. range_with_len (a + 1) (b - a) ++ ns) r.numbers
@@ -70,8 +72,6 @@ pub starts-good : {X : Type 0} (top : ℕ) (known : ℕ → Bool) (meaning : X �
 starts-good top known meaning whole entries book start = record {
   few = start.0;
   held = start.1;
-  gapless =
-      All-map Whole meaning entries
-      (All-weaker (Has entries) (λ x. Whole (meaning x)) (λ x _. whole x) entries (all_has_itself entries));
-  within = subst (All _) (sym start.2) tt;
+  gapless = All-map Whole meaning entries (λ k d lt. whole (get_or entries k d));
+  within = subst (All (FitsPlan (length (map meaning entries)) top)) (sym start.2) (All-nil _);
 }

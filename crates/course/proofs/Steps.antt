@@ -1,8 +1,8 @@
 -- What one call makes of a ledger.
 use Rattle.std.proofs.Common.{◌≡◌, ℕ, ◌+◌, ◌-◌, ◌<◌, ◌≤◌, Bool, true, false, not, ◌&&◌, ◌⊎◌, List, [], ◌∷◌, ◌++◌, length, get_or, is_ok, Some, None, Ok, Err, Option, Result, sym, refl, ap, ◌∙◌, subst, inl, inr, arith, length-append, length-set}
-use Rattle.std.specs.List.{range_with_len, AllByRecursion as All}
+use Rattle.std.specs.List.{range_with_len, All}
 use Rattle.std.proofs.lemmas.List.FromFn.{length-map-range_with_len}
-use Rattle.std.proofs.ByRecursion.{All-get_or, All-set, All-append}
+use Rattle.std.proofs.lemmas.List.Elements.{All-nil, All-cons, All-set, All-append}
 use Rattle.std.proofs.lemmas.List.{get_or-set_other}
 use Rattle.std.proofs.lemmas.Bool.{not-false}
 use Rattle.std.proofs.lemmas.Bool.Decides.{nat_tests}
@@ -15,7 +15,7 @@ use Rattle.ledger.specs.declared.call.Call.{Call}
 use Rattle.ledger.specs.declared.call.Call.TheVariants.{Rule, Slide, Withdraw, Strike, Grant, Settle}
 use Rattle.ledger.specs.Ledgers.{Ledger, Answer, done, settled, day_of, window_count, no_such_day, rows, answer, with_rules, with_day, worked, reply, after}
 use Rattle.ledger.specs.Rules.{made, windows, numbered, stands, ended, withdrawn}
-use Rattle.course.specs.Runs.{Edits, given_by, is_settle, Holds, Whole, Fits, Good}
+use Rattle.course.specs.Runs.{Edits, given_by, is_settle, Holds, Whole, FitsPlan, Good}
 use Rattle.course.proofs.Lists.{at_set}
 use Rattle.course.proofs.RuleFacts.{windows-fit, given-range, none-given, stands-append, stands-withdrawn}
 use Rattle.course.proofs.DayFacts.{marked-whole, struck-holds, granted-holds}
@@ -36,11 +36,12 @@ pub record Step (l : Ledger) (call : Call) (r : Result Answer Row) (m : Ledger) 
 
 -- no row's test is true
 abbrev Clear : Rows → Type 0
-Clear = All (λ row. row.0 ≡ false)
+Clear [] = Unit {0}
+Clear (row ∷ rows) = (row.0 ≡ false) × Clear rows
 
 module _ (l : Ledger) where
   abbrev Fit : List Declared.Rule → Type 0
-  Fit = All (Fits (length l.days) l.kind.top)
+  Fit = All (FitsPlan (length l.days) l.kind.top)
 
   -- a call that makes these the rules
   ruled : (call : Call) (r : Result Answer Row) (rules : List Declared.Rule)
@@ -77,7 +78,7 @@ module _ (l : Ledger) where
       let long = length-append old new in
       let more : length new ≡ length (old ++ new) - length old = omega arith in
       ruled call (Ok a) (old ++ new) (inl real) (omega arith) (given ∙ ap (range_with_len (length old + 1)) more)
-      (stands-append old new) (λ fits. All-append _ old new fits fit)
+      (stands-append old new) (λ fits. All-append (FitsPlan (length l.days) l.kind.top) old new fits fit)
 
   -- a withdrawal
   ends : (number : ℕ) → Step l (Withdraw number) (Ok done) (with_rules l (withdrawn l.rules number))
@@ -87,7 +88,7 @@ module _ (l : Ledger) where
       let end = ended (numbered old number) in
       let long = length-set old (number - 1) end in
       ruled (Withdraw number) (Ok done) new (inl refl) (omega arith) (none-given new _ long)
-      (λ k _. stands-withdrawn old number k) (All-set _ old (number - 1) end (λ on. grind arith))
+      (λ k _. stands-withdrawn old number k) (All-set (FitsPlan (length l.days) l.kind.top) old (number - 1) end (λ on. grind arith))
 
   -- a strike or a grant
   edited : (call : Call) (day code : ℕ) (holds : Bool) → (let m = day_of l day in let new = marked m code holds in
@@ -115,19 +116,19 @@ module _ (l : Ledger) where
         withdrawn = λ number le off. off;
         good = λ g. record {
           few = omega arith;
-          held = All-set Holds days i new (keeps (All-get_or Holds days i [] to g.held)) g.held;
+          held = All-set Holds days i new (keeps (g.held i [] to)) g.held;
           gapless =
               All-set Whole days i new
-              (marked-whole m code holds (not-false _ whole) (All-get_or Whole days i [] to g.gapless).0)
+              (marked-whole m code holds (not-false _ whole) (g.gapless i [] to).0)
               g.gapless;
-          within = subst (λ n. All (Fits n l.kind.top) l.rules) (sym long) g.within;
+          within = subst (λ n. All (FitsPlan n l.kind.top) l.rules) (sym long) g.within;
         };
       }
 
   -- a call that no row refuses
   works : (call : Call) → Clear (rows l call) → Step l call (Ok (answer l call)) (worked l call)
   works (Rule first last least most) clear =
-      added (Rule first last least most) _ (made first last least most ∷ []) refl refl (λ _. grind (arith, nat_tests), tt)
+      added (Rule first last least most) _ (made first last least most ∷ []) refl refl (All-cons (FitsPlan (length l.days) l.kind.top) _ [] (λ _. grind (arith, nat_tests)) (All-nil _))
   works (Slide width least most) clear =
       let count = window_count l width in
       let new = windows count width least most in

@@ -1,6 +1,6 @@
 -- What a list of calls makes of a plan and what it keeps, whichever of the calls are refused.
 use Rattle.std.specs.Prelude.{◌≡◌, ℕ, ◌+◌, ◌-◌, ◌<◌, ◌≤◌, Bool, true, false, if◌then◌else◌, not, ◌&&◌, List, [], ◌∷◌, ◌++◌, length, is_ok, Some, None, Ok, Err, Result}
-use Rattle.std.specs.List.{range_with_len, AllByRecursion as All}
+use Rattle.std.specs.List.{range_with_len, All}
 use Rattle.entry.specs.Cells.{Meaning, held, weigh, NoGap, Sized}
 use Rattle.entry.specs.Refusals.{Row}
 use Rattle.ledger.specs.declared.rule.Rule as Declared
@@ -55,15 +55,15 @@ abbrev pub Whole : Meaning → Type 0
 Whole m = Sized m × NoGap m
 
 -- in force, the rule lies within the days, with a least and a most that its window can have at this top
-abbrev pub Fits : ℕ → ℕ → Declared.Rule → Type 0
-Fits days top r = r.in_force ≡ true → Within days top r
+abbrev pub FitsPlan : ℕ → ℕ → Declared.Rule → Type 0
+FitsPlan days top r = r.in_force ≡ true → Within days top r
 
 -- a ledger as settling wants it
 pub record Good (l : Ledger) : Type 0 where
   pub few : length l.days ≤ 128
   pub held : All Holds l.days
   pub gapless : All Whole l.days
-  pub within : All (Fits (length l.days) l.kind.top) l.rules
+  pub within : All (FitsPlan (length l.days) l.kind.top) l.rules
 
 -- at most 128 days, each holding a code, and no rule yet
 abbrev pub Starts : Ledger → Type 0

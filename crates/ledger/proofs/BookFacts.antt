@@ -1,7 +1,7 @@
 -- What adding rules keeps of a book, and makes of it.
 use Rattle.std.proofs.Common.{◌≡◌, ℕ, ◌+◌, ◌-◌, ◌≤◌, List, [], ◌∷◌, ◌++◌, sym, ap, ◌∙◌, append_assoc, mul-le-mul_right, arith}
 use Rattle.std.proofs.lemmas.List.FromFn.{map-range_with_len_more}
-use Rattle.std.proofs.ByRecursion.{All-get_or, All-from_get_or, All-push}
+use Rattle.std.proofs.lemmas.List.Elements.{All-get_or, All-from_get_or, All-push}
 use Rattle.ledger.specs.declared.rule.Rule.{Rule}
 use Rattle.ledger.specs.Rules.{made, windows, no_rule, Within, Bounds}
 

@@ -1,6 +1,6 @@
 -- Rosters: what they weigh, and when one is lawful.
-use Rattle.std.specs.Prelude.{◌≡◌, ℕ, ◌-◌, Bool, true, not, ◌&&◌, ◌||◌, List, length, take, sum_by, nat_le}
-use Rattle.std.specs.List.{between, AllByRecursion as All, zip}
+use Rattle.std.specs.Prelude.{◌≡◌, ℕ, ◌-◌, Bool, not, ◌&&◌, ◌||◌, List, length, take, sum_by, nat_le}
+use Rattle.std.specs.List.{between, AllPass, zip}
 use Rattle.entry.specs.Cells.{Meaning, held, weigh}
 use Rattle.ledger.specs.declared.rule.Rule.{Rule}
 use Rattle.ledger.specs.Ledgers.{Ledger}
@@ -35,5 +35,5 @@ keeps days roster r =
 
 pub record Lawful (l : Ledger) (roster : Roster) : Type 0 where
   pub long : length roster ≡ length l.days
-  pub held : All (λ p. holds_its_code p ≡ true) (zip l.days roster)
-  pub kept : All (λ r. keeps l.days roster r ≡ true) l.rules
+  pub held : AllPass holds_its_code (zip l.days roster)
+  pub kept : AllPass (keeps l.days roster) l.rules

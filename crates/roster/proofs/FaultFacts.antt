@@ -1,9 +1,9 @@
 -- What it means to be the first that fails a test, and what this tells of a roster.
 use Rattle.std.proofs.Common.{◌≡◌, ℕ, suc, ◌+◌, ◌-◌, ◌<◌, ◌≤◌, Bool, true, false, cond, not, ◌&&◌, ◌||◌, ltb, leb, List, [], ◌∷◌, length, get_or, take, is_some, Some, None, unwrap_or, sym, refl, ap, ◌∙◌, subst, inl, inr, true≢false, arith}
-use Rattle.std.specs.List.{HoldsAt, prefix_len, AllByRecursion as All, zip}
+use Rattle.std.specs.List.{HoldsAt, AllPass, prefix_len, zip}
 use Rattle.std.proofs.lemmas.List.{take_all}
 use Rattle.std.proofs.lemmas.Bool.{cases_lt, lt-ltb, ltb-true}
-use Rattle.std.proofs.ByRecursion.{All-get_or}
+use Rattle.std.proofs.lemmas.List.Elements.{All-nil, All-cons}
 use Rattle.std.proofs.lemmas.Bool.Decides.{nat_tests}
 use Rattle.entry.specs.Cells.{Meaning}
 use Rattle.ledger.specs.declared.rule.Rule.{Rule}
@@ -19,18 +19,18 @@ some_is false m n e = absurd (true≢false (sym (ap is_some e)))
 module _ {X : Type 0} (test : X → Bool) where
   -- n pass from the front on, and the next, if there is one, fails
   abbrev Led : List X → ℕ → Type 0
-  Led xs n = All (λ x. test x ≡ true) (take n xs) × (n < length xs → HoldsAt (λ x. test x ≡ false) xs n)
+  Led xs n = AllPass test (take n xs) × (n < length xs → HoldsAt (λ x. test x ≡ false) xs n)
 
   led : (xs : List X) → Led xs (prefix_len test xs)
-  led [] = (tt, λ lt. absurd (omega arith))
+  led [] = (All-nil (λ y. test y ≡ true), λ lt. absurd (omega arith))
   led (x ∷ xs) = by (test x) refl (led xs)
     where
       on : Led (x ∷ xs) (suc (prefix_len test xs)) → Led (x ∷ xs) (1 + prefix_len test xs)
       on h = let same : suc (prefix_len test xs) ≡ 1 + prefix_len test xs = omega arith in subst (Led (x ∷ xs)) same h
 
       by : (b : Bool) → test x ≡ b → Led xs (prefix_len test xs) → Led (x ∷ xs) (cond b (1 + prefix_len test xs) 0)
-      by true e h = on ((e, h.0), λ lt d. h.1 (omega arith) d)
-      by false e h = (tt, λ lt d. e)
+      by true e h = on (All-cons (λ y. test y ≡ true) x (take (prefix_len test xs) xs) e h.0, λ lt d. h.1 (omega arith) d)
+      by false e h = (All-nil (λ y. test y ≡ true), λ lt d. e)
 
   -- the first that fails, where one does
   pub first-failing : (xs : List X) (n : ℕ) → failing test xs ≡ Some n → FirstFailing test xs n
@@ -43,26 +43,26 @@ module _ {X : Type 0} (test : X → Bool) where
         omega arith,
         omega arith,
         (λ d. subst (λ i. test (get_or xs i d) ≡ false) at ((led xs).1 lt d)),
-        subst (λ i. All (λ x. test x ≡ true) (take i xs)) at (led xs).0,
+        subst (λ i. AllPass test (take i xs)) at (led xs).0,
       )
 
   -- none fails
-  pub none-failing : (xs : List X) → failing test xs ≡ None → All (λ x. test x ≡ true) xs
+  pub none-failing : (xs : List X) → failing test xs ≡ None → AllPass test xs
   none-failing xs e =
       let k = prefix_len test xs in
       let past : length xs ≤ k = elim (cases_lt k (length xs)) [
         | inl lt ↦ absurd (true≢false (ap is_some (ap (λ b. cond b (Some (k + 1)) None) (sym (lt-ltb k (length xs) lt)) ∙ e)))
         | inr le ↦ le
       ] in
-      subst (All (λ x. test x ≡ true)) (take_all k xs past) (led xs).0
+      subst (AllPass test) (take_all k xs past) (led xs).0
 
   -- not all pass where one fails
-  pub some-fails : (xs : List X) (n : ℕ) → FirstFailing test xs n → All (λ x. test x ≡ true) xs → ⊥
+  pub some-fails : (xs : List X) (n : ℕ) → FirstFailing test xs n → AllPass test xs → ⊥
   some-fails [] n f h = let from = f.0 in let to = f.1 in omega arith
   some-fails (x ∷ xs) n f h =
       let from = f.0 in
       let to = f.1 in
-      true≢false (sym (All-get_or (λ y. test y ≡ true) (x ∷ xs) (n - 1) x (omega arith) h) ∙ f.2 x)
+      true≢false (sym (h (n - 1) x (omega arith)) ∙ f.2 x)
 
 by-force : (force kept ends : Bool) → (not force || kept) ≡ false → (not force || ends) ≡ true → ends ≡ true
 by-force true kept ends p q = q
@@ -116,12 +116,12 @@ module _ (l : Ledger) (roster : Roster) where
           let lt : number - 1 < length rules = omega arith in
           let b = bounds (number - 1) lt in
           let within = none-failing (ends_within n) rules (ap (failing (ends_within n)) same ∙ none) in
-          let ends = All-get_or (λ r. ends_within n r ≡ true) rules (number - 1) no_rule lt within in
+          let ends = within (number - 1) no_rule lt in
           (b.0, b.1, broken-ends l.days roster rule n (f.2 no_rule) ends)
 
       pub rule-fault : (part : Roster) → part ≡ stretch rule roster → (let r = numbered l.rules number in
           (broken number rule.first rule.last part ≡ verdict l roster)
-          × ((Lawful l roster → ⊥) × All (λ p. holds_its_code p ≡ true) pairs
+          × ((Lawful l roster → ⊥) × AllPass holds_its_code pairs
           × FirstFailing (keeps l.days roster) l.rules number
           × (rule.first ≡ r.first) × (rule.last ≡ r.last) × (part ≡ stretch r roster)))
       rule-fault part e =

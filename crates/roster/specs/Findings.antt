@@ -1,6 +1,6 @@
 -- What a check of a roster finds: its first fault.
-use Rattle.std.specs.Prelude.{◌≡◌, ℕ, ◌-◌, ◌<◌, ◌≤◌, Bool, true, false, not, List, [], ◌∷◌, length, take, Some, None, Ok, Err, Option, Result, ◌==◌}
-use Rattle.std.specs.List.{HoldsAt, AllByRecursion as All, zip}
+use Rattle.std.specs.Prelude.{◌≡◌, ℕ, ◌-◌, ◌<◌, ◌≤◌, Bool, false, not, List, [], ◌∷◌, length, take, Some, None, Ok, Err, Option, Result, ◌==◌}
+use Rattle.std.specs.List.{HoldsAt, AllPass, zip}
 use Rattle.entry.specs.declared.refusal.Refusal.{Refusal}
 use Rattle.entry.specs.Refusals.{Rows, row, topmost, told, answered}
 use Rattle.ledger.specs.Ledgers.{Ledger, too_many_days, failing, naming_one, rule_past_days}
@@ -44,7 +44,7 @@ verdict l roster =
 -- the one at place n, counted from 1, fails the test, and all before pass it
 abbrev pub FirstFailing : {X : Type 0} → (X → Bool) → List X → ℕ → Type 0
 FirstFailing test xs n =
-    (0 < n) × (n ≤ length xs) × HoldsAt (λ x. test x ≡ false) xs (n - 1) × All (λ x. test x ≡ true) (take (n - 1) xs)
+    (0 < n) × (n ≤ length xs) × HoldsAt (λ x. test x ≡ false) xs (n - 1) × AllPass test (take (n - 1) xs)
 
 -- what the answer means: the roster is lawful, or it is not and this is the first fault
 abbrev pub Found : Ledger → Roster → Result Finding Refusal → Type 0
@@ -52,7 +52,7 @@ Found l roster (Ok Lawful) = rosters.Lawful l roster
 Found l roster (Ok (NotHeld day)) =
     (rosters.Lawful l roster → ⊥) × FirstFailing holds_its_code (zip l.days roster) day
 Found l roster (Ok (Broken number first last part)) =
-    (rosters.Lawful l roster → ⊥) × All (λ p. holds_its_code p ≡ true) (zip l.days roster)
+    (rosters.Lawful l roster → ⊥) × AllPass holds_its_code (zip l.days roster)
     × FirstFailing (keeps l.days roster) l.rules number
     × (first ≡ (numbered l.rules number).first) × (last ≡ (numbered l.rules number).last)
     × (part.now ≡ stretch (numbered l.rules number) roster)

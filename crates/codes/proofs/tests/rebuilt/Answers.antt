@@ -1,6 +1,6 @@
 use Rattle.std.proofs.Common.{◌≡◌, ◌||◌, eqb, ◌++◌, Decides, sym, ap, ◌∙◌, subst, inl, inr, ⊎_elim, append-nil, arith}
-use Rattle.std.specs.List.{ContainsAt as Has}
-use Rattle.std.proofs.ByRecursion.{has_append_left, has_push, has_push_cases}
+use Rattle.std.specs.List.{Contains}
+use Rattle.std.proofs.lemmas.List.Elements.{Contains-append_left, Contains-push, Contains-push_cases}
 use Rattle.std.proofs.lemmas.Bool.Decides.{nat_tests, Decides-at, Decides-like, Decides-or, Decides-eqb, same_from_decides}
 use Rattle.codes.specs.Members.{member, Listing}
 use Rattle.codes.specs.Coming.{coming}
@@ -18,8 +18,8 @@ loop-code-preserved c = λ k.
     let low = member_below set code held in
     let now : member c.with-all.result k ≡ (member c.loop-code.all k || eqb k code) = c.with-all.ensures.each k ∙ grind (arith, nat_tests) in
     Decides-at _ _ now
-    (Decides-like _ (⊎_elim (has_append_left xs _ k) (λ e. subst (Has _) (sym e) (has_push xs code)))
-    (λ h. ⊎_elim inl (λ e. inr (sym e)) (has_push_cases xs code k h))
+    (Decides-like _ (⊎_elim (Contains-append_left xs _ k) (λ e. subst (Contains _) (sym e) (Contains-push xs code)))
+    (λ h. ⊎_elim inl (λ e. inr (sym e)) (Contains-push_cases xs code k h))
     (Decides-or _ _ (c.loop-code.invariant k) (Decides-eqb k code)))
 
 pub returns : goal.returns
@@ -28,4 +28,4 @@ returns c = λ k.
     let all : coming c.codes-code-items.result ≡ xs =
     ap coming (sym c.into_iter-code-iterator.ensures.into_iter_gives) ∙ came c.into_iter-code-iterator.result xs c.loop-code.code-iterator c.loop-code.yielded_by
     ∙ ap (λ ys. xs ++ ys) c.in-None.ensures.steps.0 ∙ append-nil xs in
-    same_from_decides _ _ (c.loop-code.invariant k) (subst (λ ys. Decides (member c.args.set k) (Has ys k)) all (c.codes-code-items.ensures.exact k))
+    same_from_decides _ _ (c.loop-code.invariant k) (subst (λ ys. Decides (member c.args.set k) (Contains ys k)) all (c.codes-code-items.ensures.exact k))

@@ -1,5 +1,4 @@
-use Rattle.std.proofs.Common.{◌≡◌, true, map, length}
-use Rattle.std.proofs.ByRecursion.{All-get_or}
+use Rattle.std.proofs.Common.{map, length}
 use Rattle.ledger.specs.Ledgers.{ends_within}
 use Rattle.ledger.specs.Rosters.{keeps}
 use Rattle.ledger.specs.Rules.{no_rule}
@@ -13,7 +12,7 @@ keeps-requires g c =
     let i = c.loop-rule.rule-index in
     let lt = c.loop-rule-test.true in
     let test = ends_within (length c.args.entries.now) in
-    (c.requires.0, c.requires.1, c.requires.3 i lt, All-get_or (λ r. test r ≡ true) rules i no_rule lt (none-failing test rules c.requires.4))
+    (c.requires.0, c.requires.1, c.requires.3 i lt, none-failing test rules c.requires.4 i no_rule lt)
 
 pub loop-rule-preserved : goal.loop-rule-preserved
 loop-rule-preserved g c =
