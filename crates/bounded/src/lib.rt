@@ -1,7 +1,7 @@
 // A list with room for a fixed number of items, kept in the value itself.
 #![tactic(auto)]
 
-ghost use Rattle.std.specs.Prelude.{◌≡◌, ◌<◌, ◌≤◌, true, false, List, [], ◌∷◌, ◌++◌, length, take, slice_set, is_ok, if◌then◌else◌, nat_lt};
+ghost use Rattle.std.specs.Prelude.{◌≡◌, ◌≤◌, List, [], ◌∷◌, ◌++◌, length, take, slice_set, is_ok, if◌then◌else◌, nat_lt};
 
 use std::marker::Model;
 
@@ -18,7 +18,7 @@ impl<T, const N: usize> Model for Bounded<T, N> {
 
     ghost view = { λ b. take b.count b.items };
 
-    ghost invariant = { (λ b. (b.count ≤ N) × (length b.items ≡ N)) };
+    ghost invariant = { λ b. (b.count ≤ N) × (length b.items ≡ N) };
 }
 
 // Each method does what the method of a `Vec` does on the list that the value stands for.

@@ -1,5 +1,5 @@
 ghost use Rattle.std.specs.Prelude.{◌≡◌, ℕ, List};
-ghost use Rattle.std.proofs.Common.{arith, rules};
+ghost use Rattle.std.proofs.Common.{rules};
 ghost use Rattle.codes.specs.Members.{member};
 ghost use Rattle.entry.specs.Refusals.{told};
 ghost use Rattle.entry.proofs.CellFacts.{length-cells, held-known, weigh-unknown, weigh-below, cells-gapless};

@@ -1,5 +1,4 @@
 ghost use Rattle.std.specs.Prelude.{◌≡◌, ◌+◌, ◌*◌, ◌<◌, ◌≤◌, false, ◌||◌, List, [], ◌∷◌, ◌++◌, length, is_ok, nat_lt};
-ghost use Rattle.ledger.specs.declared.rule.Rule.{Rule};
 
 use crate::days::day_count;
 use crate::rule::Rule;
@@ -38,6 +37,7 @@ impl Book {
     ghost use Rattle.ledger.specs.Ledgers.{Kind, numbered, ranging, done, reply, after};
     ghost use Rattle.ledger.specs.Rules.{Within, Bounds, windows, stands, withdrawn};
 
+    // The book of a new plan.
     pub fn new() -> Book
         ensures { result ≡ [] }
     {
