@@ -12,8 +12,8 @@ at_set P (x ∷ xs) (suc i) zero y d new old = old
 at_set P (x ∷ xs) (suc i) (suc j) y d new old = at_set P xs i j y d (λ e. new (ap suc e)) old
 
 -- counting on from where a count ends
-pub counting-on : (a n b m : ℕ) → a + n ≡ b → range_with_len a n ++ range_with_len b m ≡ range_with_len a (n + m)
-counting-on a zero b m e = let from : b ≡ a = omega arith in let all : m ≡ zero + m = omega arith in cc
-counting-on a (suc n) b m e =
+pub counting_on : (a n b m : ℕ) → a + n ≡ b → range_with_len a n ++ range_with_len b m ≡ range_with_len a (n + m)
+counting_on a zero b m e = let from : b ≡ a = omega arith in let all : m ≡ zero + m = omega arith in cc
+counting_on a (suc n) b m e =
     let all : suc (n + m) ≡ suc n + m = omega arith in
-    ap (λ rest. a ∷ rest) (counting-on (a + 1) n b m (omega arith)) ∙ ap (range_with_len a) all
+    ap (λ rest. a ∷ rest) (counting_on (a + 1) n b m (omega arith)) ∙ ap (range_with_len a) all

@@ -12,9 +12,9 @@ use Rattle.course.specs.Runs.{given_by, FitsPlan}
 use Rattle.course.proofs.Lists.{at_set}
 
 -- each window of the days fits
-pub windows-fit : (days top width least most : ℕ) → 0 < width → least ≤ most → most ≤ top * width
+pub windows_fit : (days top width least most : ℕ) → 0 < width → least ≤ most → most ≤ top * width
     → All (FitsPlan days top) (windows (days + 1 - width) width least most)
-windows-fit days top width least most wide order can =
+windows_fit days top width least most wide order can =
     let count = days + 1 - width in
     let rule : ℕ → Rule = λ first. made first (first + width - 1) least most in
     let long = length-map-range_with_len rule 1 count in
@@ -25,18 +25,18 @@ windows-fit days top width least most wide order can =
     (λ _. (omega arith, omega arith, omega arith, order, subst (λ n. most ≤ top * n) back can)))
 
 -- the numbers that a slide gives out
-pub given-range : (n more : ℕ)
+pub given_range : (n more : ℕ)
     → given_by (Ok (ranging (cond (eqb more 0) None (Some (n + 1, n + more))))) ≡ range_with_len (n + 1) more
-given-range n zero = refl
-given-range n (suc more) =
+given_range n zero = refl
+given_range n (suc more) =
     let some : eqb (suc more) 0 ≡ false = grind (arith, nat_tests) in
     let all : n + suc more + 1 - (n + 1) ≡ suc more = omega arith in
     rw some (ap (range_with_len (n + 1)) all)
 
 module _ (rules : List Rule) where
   -- where there are as many rules as before, no number is given out
-  pub none-given : (n : ℕ) → length rules ≡ n → [] ≡ range_with_len (n + 1) (length rules - n)
-  none-given n e = let none : 0 ≡ length rules - n = omega arith in ap (range_with_len (n + 1)) none
+  pub none_given : (n : ℕ) → length rules ≡ n → [] ≡ range_with_len (n + 1) (length rules - n)
+  none_given n e = let none : 0 ≡ length rules - n = omega arith in ap (range_with_len (n + 1)) none
 
   -- a number that no rule in force has gets none by an addition, nor by a withdrawal
   pub stands-append : (new : List Rule) (number : ℕ) → number ≤ length rules

@@ -8,8 +8,8 @@ use Rattle.ledger.specs.Rules.{Book}
 use Rattle.ledger.specs.declared.call.Call.{Call}
 use Rattle.ledger.specs.Ledgers.{Ledger, ledger, after, after_all}
 use Rattle.course.specs.Runs.{Edits, Whole, FitsPlan, Good, Starts, Run, given, taken}
-use Rattle.course.proofs.Lists.{counting-on}
-use Rattle.course.proofs.RuleFacts.{none-given}
+use Rattle.course.proofs.Lists.{counting_on}
+use Rattle.course.proofs.RuleFacts.{none_given}
 use Rattle.course.proofs.Steps.{step_of}
 
 -- a call that is left out does nothing
@@ -29,7 +29,7 @@ run_of l [] = record {
   weights = λ day code. refl;
   others = λ day from none. refl;
   grows = omega arith;
-  numbers = none-given l.rules _ refl;
+  numbers = none_given l.rules _ refl;
   withdrawn = λ number le off. off;
   good = λ g. g;
 }
@@ -54,22 +54,22 @@ run_of l (call ∷ calls) =
       grows = omega arith;
       numbers =
           ap (λ ns. ns ++ given m calls) s.numbers ∙ ap (λ ns. range_with_len (a + 1) (b - a) ++ ns) r.numbers
-          ∙ counting-on (a + 1) (b - a) (b + 1) (c - b) (omega arith) ∙ ap (range_with_len (a + 1)) more;
+          ∙ counting_on (a + 1) (b - a) (b + 1) (c - b) (omega arith) ∙ ap (range_with_len (a + 1)) more;
       withdrawn = λ number le off. r.withdrawn number (omega arith) (s.withdrawn number le off);
       good = λ g. r.good (s.good g);
     }
 
 -- the call at a place in a list of calls, and then the rest
-pub call-worked : (l m : Ledger) (calls : List Call) (i : ℕ) (d : Call) → i < length calls
+pub call_worked : (l m : Ledger) (calls : List Call) (i : ℕ) (d : Call) → i < length calls
     → m ≡ after l (get_or calls i d) → after_all m (drop (i + 1) calls) ≡ after_all l (drop i calls)
-call-worked l m calls i d h e =
+call_worked l m calls i d h e =
     ap (λ x. after_all x (drop (i + 1) calls)) e ∙ sym (at_drop_more (after_all l) calls i d h)
 
 -- a start with entries of a kind is good
-pub starts-good : {X : Type 0} (top : ℕ) (known : ℕ → Bool) (meaning : X → Meaning) → ((x : X) → Whole (meaning x))
+pub starts_good : {X : Type 0} (top : ℕ) (known : ℕ → Bool) (meaning : X → Meaning) → ((x : X) → Whole (meaning x))
     → (entries : List X) (book : Book) → Starts (ledger top known meaning entries book)
     → Good (ledger top known meaning entries book)
-starts-good top known meaning whole entries book start = record {
+starts_good top known meaning whole entries book start = record {
   few = start.0;
   held = start.1;
   gapless = All-map Whole meaning entries (λ k d lt. whole (get_or entries k d));

@@ -17,8 +17,8 @@ use Rattle.ledger.specs.Ledgers.{Ledger, Answer, done, settled, day_of, window_c
 use Rattle.ledger.specs.Rules.{made, windows, numbered, stands, ended, withdrawn}
 use Rattle.course.specs.Runs.{Edits, given_by, is_settle, Holds, Whole, FitsPlan, Good}
 use Rattle.course.proofs.Lists.{at_set}
-use Rattle.course.proofs.RuleFacts.{windows-fit, given-range, none-given, stands-append, stands-withdrawn}
-use Rattle.course.proofs.DayFacts.{marked-whole, struck-holds, granted-holds}
+use Rattle.course.proofs.RuleFacts.{windows_fit, given_range, none_given, stands-append, stands-withdrawn}
+use Rattle.course.proofs.DayFacts.{marked_whole, struck_holds, granted_holds}
 
 -- a call on the ledger l that answers r and leaves m
 pub record Step (l : Ledger) (call : Call) (r : Result Answer Row) (m : Ledger) : Type 0 where
@@ -66,7 +66,7 @@ module _ (l : Ledger) where
   -- a call that leaves all as it is
   same : (call : Call) (r : Result Answer Row) → given_by r ≡ [] → Step l call r l
   same call r none =
-      ruled call r l.rules (inr refl) (omega arith) (none ∙ none-given l.rules _ refl)
+      ruled call r l.rules (inr refl) (omega arith) (none ∙ none_given l.rules _ refl)
       (λ number le off. off) (λ fit. fit)
 
   -- a call that adds rules
@@ -87,7 +87,7 @@ module _ (l : Ledger) where
       let new = withdrawn old number in
       let end = ended (numbered old number) in
       let long = length-set old (number - 1) end in
-      ruled (Withdraw number) (Ok done) new (inl refl) (omega arith) (none-given new _ long)
+      ruled (Withdraw number) (Ok done) new (inl refl) (omega arith) (none_given new _ long)
       (λ k _. stands-withdrawn old number k) (All-set (FitsPlan (length l.days) l.kind.top) old (number - 1) end (λ on. grind arith))
 
   -- a strike or a grant
@@ -112,14 +112,14 @@ module _ (l : Ledger) where
             (λ e. weigh-marked m code holds c ∙ ap (λ k. weigh (get_or days k []) c) (sym e)) refl;
         others = λ other after apart. get_or-set_other days i (other - 1) new [] (λ e. apart (names other (omega arith)));
         grows = omega arith;
-        numbers = none-given l.rules _ refl;
+        numbers = none_given l.rules _ refl;
         withdrawn = λ number le off. off;
         good = λ g. record {
           few = omega arith;
           held = All-set Holds days i new (keeps (g.held i [] to)) g.held;
           gapless =
               All-set Whole days i new
-              (marked-whole m code holds (not-false _ whole) (g.gapless i [] to).0)
+              (marked_whole m code holds (not-false _ whole) (g.gapless i [] to).0)
               g.gapless;
           within = subst (λ n. All (FitsPlan n l.kind.top) l.rules) (sym long) g.within;
         };
@@ -132,10 +132,10 @@ module _ (l : Ledger) where
   works (Slide width least most) clear =
       let count = window_count l width in
       let new = windows count width least most in
-      let given = given-range (length l.rules) count in
+      let given = given_range (length l.rules) count in
       let long : count ≡ length new = sym (length-map-range_with_len _ 1 count) in
       added (Slide width least most) _ new refl (given ∙ ap (range_with_len (length l.rules + 1)) long)
-      (windows-fit (length l.days) l.kind.top width least most
+      (windows_fit (length l.days) l.kind.top width least most
       (grind (arith, nat_tests)) (grind (arith, nat_tests)) (grind (arith, nat_tests)))
   works (Withdraw number) clear = ends number
   works (Strike day code) clear =
@@ -143,20 +143,20 @@ module _ (l : Ledger) where
       let such : no_such_day l day ≡ false = clear.1.0 in
       let more : only m code ≡ false = clear.1.1.1.0 in
       let whole : not (gapless (struck m code)) ≡ false = clear.1.1.1.1.0 in
-      edited (Strike day code) day code false refl (λ _ e. e) such whole (struck-holds m code more)
+      edited (Strike day code) day code false refl (λ _ e. e) such whole (struck_holds m code more)
   works (Grant day code) clear =
       let m = day_of l day in
       let such : no_such_day l day ≡ false = clear.1.0 in
       let whole : not (gapless (granted m code)) ≡ false = clear.1.1.1.0 in
-      edited (Grant day code) day code true refl (λ _ e. e) such whole (granted-holds m code)
+      edited (Grant day code) day code true refl (λ _ e. e) such whole (granted_holds m code)
   works Settle clear = same Settle (Ok settled) refl
 
-all-clear : (rows : Rows) → topmost rows ≡ None → Clear rows
-all-clear [] h = tt
-all-clear (row ∷ rows) h = (grind arith, all-clear rows (grind arith))
+all_clear : (rows : Rows) → topmost rows ≡ None → Clear rows
+all_clear [] h = tt
+all_clear (row ∷ rows) h = (grind arith, all_clear rows (grind arith))
 
 pub step_of : (l : Ledger) (call : Call) → Step l call (reply l call) (after l call)
-step_of l call = by (topmost (rows l call)) (all-clear (rows l call))
+step_of l call = by (topmost (rows l call)) (all_clear (rows l call))
   where
     by : (o : Option Row) → (o ≡ None → Clear (rows l call))
         → Step l call (answered o (answer l call)) (unless o (worked l call) l)

@@ -4,13 +4,13 @@ use Rattle.std.proofs.lemmas.Bool.{both_ways, cases_Bool, cases_lt}
 use Rattle.entry.specs.Cells.{Cell, Meaning, weigh, held}
 use Rattle.entry.specs.Weights.{held_weights, chosen, lightest, heaviest, Extreme, Lightest, Heaviest}
 
-first-held : (x : Cell) (m : Meaning) → x.held ≡ true → held_weights (x ∷ m) ≡ x.weight ∷ held_weights m
+first_held : (x : Cell) (m : Meaning) → x.held ≡ true → held_weights (x ∷ m) ≡ x.weight ∷ held_weights m
 unfolding held_weights
-first-held x m h = rw h refl
+first_held x m h = rw h refl
 
-first-not : (x : Cell) (m : Meaning) → x.held ≡ false → held_weights (x ∷ m) ≡ held_weights m
+first_not : (x : Cell) (m : Meaning) → x.held ≡ false → held_weights (x ∷ m) ≡ held_weights m
 unfolding held_weights
-first-not x m h = rw h refl
+first_not x m h = rw h refl
 
 -- what holds of code 0 and of each code after it holds of each
 each : (P : ℕ → Type 0) → P 0 → ((c : ℕ) → P (suc c)) → (c : ℕ) → P c
@@ -43,8 +43,8 @@ module _ (pick : ℕ → ℕ → ℕ) (Ahead : ℕ → ℕ → Type 0) (o : Orde
     one_of : (best ≡ n) ⊎ ((k : ℕ) × (held m k ≡ true) × (weigh m k ≡ best))
 
   module _ (x : Cell) (m : Meaning) (best n : ℕ) where
-    best-first : x.held ≡ true → Best best (pick n x.weight) m → Best best n (x ∷ m)
-    best-first h b = record {
+    best_first : x.held ≡ true → Best best (pick n x.weight) m → Best best n (x ∷ m)
+    best_first h b = record {
       start = o.further best (pick n x.weight) n b.start (o.left n x.weight);
       every = each (λ c. held (x ∷ m) c ≡ true → Ahead best (weigh (x ∷ m) c))
           (λ _. o.further best (pick n x.weight) x.weight b.start (o.right n x.weight)) b.every;
@@ -54,22 +54,22 @@ module _ (pick : ℕ → ℕ → ℕ) (Ahead : ℕ → ℕ → Type 0) (o : Orde
       ];
     }
 
-    best-later : x.held ≡ false → Best best n m → Best best n (x ∷ m)
-    best-later h b = record {
+    best_later : x.held ≡ false → Best best n m → Best best n (x ∷ m)
+    best_later h b = record {
       start = b.start;
       every = each (λ c. held (x ∷ m) c ≡ true → Ahead best (weigh (x ∷ m) c)) (λ t. absurd (both_ways x.held h t)) b.every;
       one_of = elim b.one_of [ inl e ↦ inl e | inr f ↦ inr (suc f.0, f.1, f.2) ];
     }
 
-    extreme-first : x.held ≡ true → Best best x.weight m → Extreme Ahead (x ∷ m) best
-    extreme-first h b = record {
+    extreme_first : x.held ≡ true → Best best x.weight m → Extreme Ahead (x ∷ m) best
+    extreme_first h b = record {
       none = λ never. absurd (both_ways x.held (never 0) h);
       some = λ _ _. elim b.one_of [ inl e ↦ (0, h, sym e) | inr f ↦ (suc f.0, f.1, f.2) ];
       every = each (λ c. held (x ∷ m) c ≡ true → Ahead best (weigh (x ∷ m) c)) (λ _. b.start) b.every;
     }
 
-    extreme-later : x.held ≡ false → Extreme Ahead m best → Extreme Ahead (x ∷ m) best
-    extreme-later h b = record {
+    extreme_later : x.held ≡ false → Extreme Ahead m best → Extreme Ahead (x ∷ m) best
+    extreme_later h b = record {
       none = λ never. b.none (λ c. never (suc c));
       some = each (λ c. held (x ∷ m) c ≡ true → (k : ℕ) × (held (x ∷ m) k ≡ true) × (weigh (x ∷ m) k ≡ best))
           (λ t. absurd (both_ways x.held h t)) (λ c t. let f = b.some c t in (suc f.0, f.1, f.2));
@@ -81,8 +81,8 @@ module _ (pick : ℕ → ℕ → ℕ) (Ahead : ℕ → ℕ → Type 0) (o : Orde
   folds [] n = record { start = o.itself n; every = λ c h. absurd (both_ways false refl h); one_of = inl refl }
   folds (x ∷ m) n =
       elim (cases_Bool x.held) [
-        | inl h ↦ rw (first-held x m h) (best-first x m _ n h (folds m (pick n x.weight)))
-        | inr h ↦ rw (first-not x m h) (best-later x m _ n h (folds m n))
+        | inl h ↦ rw (first_held x m h) (best_first x m _ n h (folds m (pick n x.weight)))
+        | inr h ↦ rw (first_not x m h) (best_later x m _ n h (folds m n))
       ]
 
   -- what is worked out meets the meaning
@@ -91,8 +91,8 @@ module _ (pick : ℕ → ℕ → ℕ) (Ahead : ℕ → ℕ → Type 0) (o : Orde
   extreme [] = record { none = λ _. refl; some = λ c h. absurd (both_ways false refl h); every = λ c h. absurd (both_ways false refl h) }
   extreme (x ∷ m) =
       elim (cases_Bool x.held) [
-        | inl h ↦ rw (first-held x m h) (extreme-first x m _ 0 h (folds m x.weight))
-        | inr h ↦ rw (first-not x m h) (extreme-later x m _ 0 h (extreme m))
+        | inl h ↦ rw (first_held x m h) (extreme_first x m _ 0 h (folds m x.weight))
+        | inr h ↦ rw (first_not x m h) (extreme_later x m _ 0 h (extreme m))
       ]
 
   -- and nothing else does
@@ -108,8 +108,8 @@ module _ (pick : ℕ → ℕ → ℕ) (Ahead : ℕ → ℕ → Type 0) (o : Orde
         | inr never ↦ p.none never ∙ sym (q.none never)
       ]
 
-lightest-ordered : Ordered min (λ w v. w ≤ v)
-lightest-ordered = record {
+lightest_ordered : Ordered min (λ w v. w ≤ v)
+lightest_ordered = record {
   one = λ a b. elim (cases_lt a b) [ inl h ↦ inl (omega arith) | inr h ↦ inr (omega arith) ];
   left = λ a b. omega arith;
   right = λ a b. omega arith;
@@ -118,8 +118,8 @@ lightest-ordered = record {
   equal = λ a b p q. omega arith;
 }
 
-heaviest-ordered : Ordered max (λ w v. v ≤ w)
-heaviest-ordered = record {
+heaviest_ordered : Ordered max (λ w v. v ≤ w)
+heaviest_ordered = record {
   one = λ a b. elim (cases_lt a b) [ inl h ↦ inr (omega arith) | inr h ↦ inl (omega arith) ];
   left = λ a b. omega arith;
   right = λ a b. omega arith;
@@ -128,11 +128,11 @@ heaviest-ordered = record {
   equal = λ a b p q. omega arith;
 }
 
-pub lightest-is : (m : Meaning) (w : ℕ) → Lightest m w → w ≡ lightest m
-lightest-is m w p = unique min (λ w v. w ≤ v) lightest-ordered m w (lightest m) p (extreme min (λ w v. w ≤ v) lightest-ordered m)
+pub lightest_is : (m : Meaning) (w : ℕ) → Lightest m w → w ≡ lightest m
+lightest_is m w p = unique min (λ w v. w ≤ v) lightest_ordered m w (lightest m) p (extreme min (λ w v. w ≤ v) lightest_ordered m)
 
-pub heaviest-is : (m : Meaning) (w : ℕ) → Heaviest m w → w ≡ heaviest m
-heaviest-is m w p = unique max (λ w v. v ≤ w) heaviest-ordered m w (heaviest m) p (extreme max (λ w v. v ≤ w) heaviest-ordered m)
+pub heaviest_is : (m : Meaning) (w : ℕ) → Heaviest m w → w ≡ heaviest m
+heaviest_is m w p = unique max (λ w v. v ≤ w) heaviest_ordered m w (heaviest m) p (extreme max (λ w v. v ≤ w) heaviest_ordered m)
 
 -- a held code's weight, ahead of that of each held code
 pub attained : {Ahead : ℕ → ℕ → Type 0} {m : Meaning} {w : ℕ} (k : ℕ) → held m k ≡ true → weigh m k ≡ w → ((c : ℕ) → held m c ≡ true → Ahead w (weigh m c)) → Extreme Ahead m w

@@ -8,17 +8,17 @@ use Rattle.codes.proofs.Sets.{member_below}
 use Rattle.entry.specs.Cells.{Meaning, weigh, held, NoGap, Sized}
 use Rattle.entry.specs.Edits.{some, struck, granted}
 use Rattle.entry.specs.Weights.{Lightest, Heaviest}
-use Rattle.entry.proofs.CellFacts.{length-cells, held-cells, weigh-cells, weigh-below, cells-struck, cells-granted, cells-gapless}
-use Rattle.entry.proofs.Tested.{decides-some}
+use Rattle.entry.proofs.CellFacts.{length-cells, held-cells, weigh-cells, weigh_below, cells-struck, cells-granted, cells-gapless}
+use Rattle.entry.proofs.Tested.{decides_some}
 use Rattle.entry.proofs.Weighing.{attained, weightless}
 use Rattle.kinds.specs.declared.collection.Collection.{Collection}
 use Rattle.kinds.specs.Collections.{weight_in, collected}
 use Rattle.kinds.specs.Laws.{counted_light}
 
 -- a member, or none
-pub some-member : (s : CodeSet) → ((c : ℕ) × (member s c ≡ true)) ⊎ ((c : ℕ) → member s c ≡ false)
-some-member s =
-    let found = decides-some (member s) (λ c. member s c ≡ true) (λ c. (λ t. t, λ t. t)) 64 in
+pub some_member : (s : CodeSet) → ((c : ℕ) × (member s c ≡ true)) ⊎ ((c : ℕ) → member s c ≡ false)
+some_member s =
+    let found = decides_some (member s) (λ c. member s c ≡ true) (λ c. (λ t. t, λ t. t)) 64 in
     elim (cases_Bool (some (member s) 64)) [
       | inl t ↦ let f = found.0 t in inl (f.0, f.2)
       | inr f ↦ inr (λ c. elim (cases_Bool (member s c)) [
@@ -29,7 +29,7 @@ some-member s =
 
 -- a set that is not empty has a member
 pub found : (s : CodeSet) → (((c : ℕ) → member s c ≡ false) → false ≡ true) → (c : ℕ) × (member s c ≡ true)
-found s full = elim (some-member s) [ inl f ↦ f | inr n ↦ absurd (both_ways false refl (full n)) ]
+found s full = elim (some_member s) [ inl f ↦ f | inr n ↦ absurd (both_ways false refl (full n)) ]
 
 module _ (x : Collection) where
   abbrev m : Meaning
@@ -39,7 +39,7 @@ module _ (x : Collection) where
   weighs = weight_in (member x.counted)
 
   pub light : (c : ℕ) → weigh m c ≤ 1
-  light = weigh-below weighs (member x.held) 1 (λ c h. counted_light (member x.counted c))
+  light = weigh_below weighs (member x.held) 1 (λ c h. counted_light (member x.counted c))
 
   pub sized : Sized m
   sized = (length-cells weighs (member x.held), λ c. omega (arith, light c))
@@ -48,8 +48,8 @@ module _ (x : Collection) where
   no_gap = cells-gapless weighs (member x.held) (λ c. counted_light (member x.counted c))
 
   -- the cells say what the sets do, of every number
-  pub held-is : (c : ℕ) → held m c ≡ member x.held c
-  held-is c =
+  pub held_is : (c : ℕ) → held m c ≡ member x.held c
+  held_is c =
       held-cells weighs (member x.held) c
       ∙ elim (cases_Bool (member x.held c)) [
         | inl t ↦ and_from (nat_lt c 64) (member x.held c) (lt-ltb c 64 (member_below x.held c t)) t ∙ sym t
@@ -71,8 +71,8 @@ module _ (x : Collection) where
         ]
       ]
 
-  pub counted-one : (c : ℕ) → member x.counted c ≡ true → weigh m c ≡ 1
-  counted-one c t = counted_is c ∙ cond-true (member x.counted c) 1 0 t
+  pub counted_one : (c : ℕ) → member x.counted c ≡ true → weigh m c ≡ 1
+  counted_one c t = counted_is c ∙ cond-true (member x.counted c) 1 0 t
 
   pub counted_none : (c : ℕ) → member x.counted c ≡ false → weigh m c ≡ 0
   counted_none c f = counted_is c ∙ cond-false (member x.counted c) 1 0 f
@@ -83,30 +83,30 @@ module _ (x : Collection) where
   abbrev counted : ℕ → Bool
   counted = member x.counted
 
-  pub heaviest-some : (c : ℕ) → (holds c && counted c) ≡ true → Heaviest m 1
-  heaviest-some c t =
+  pub heaviest_some : (c : ℕ) → (holds c && counted c) ≡ true → Heaviest m 1
+  heaviest_some c t =
       let both = and_parts (holds c) (counted c) t in
-      attained c (held-is c ∙ both.0) (counted-one c both.1) (λ k _. light k)
+      attained c (held_is c ∙ both.0) (counted_one c both.1) (λ k _. light k)
 
-  pub lightest-free : (c : ℕ) → (holds c && not (counted c)) ≡ true → Lightest m 0
-  lightest-free c t =
+  pub lightest_free : (c : ℕ) → (holds c && not (counted c)) ≡ true → Lightest m 0
+  lightest_free c t =
       let both = and_parts (holds c) (not (counted c)) t in
-      attained c (held-is c ∙ both.0) (counted_none c (not-true (counted c) both.1)) (λ _ _. omega arith)
+      attained c (held_is c ∙ both.0) (counted_none c (not-true (counted c) both.1)) (λ _ _. omega arith)
 
   pub lightest-counted : ((c : ℕ) → (holds c && not (counted c)) ≡ false) → (c : ℕ) → holds c ≡ true → Lightest m 1
   lightest-counted never c t =
       let one : (k : ℕ) → held m k ≡ true → weigh m k ≡ 1 =
-      λ k h. counted-one k (elim (and_cases (holds k) (not (counted k)) (never k)) [
-        | inl f ↦ absurd (both_ways (holds k) f (sym (held-is k) ∙ h))
+      λ k h. counted_one k (elim (and_cases (holds k) (not (counted k)) (never k)) [
+        | inl f ↦ absurd (both_ways (holds k) f (sym (held_is k) ∙ h))
         | inr f ↦ not-false (counted k) f
       ]) in
-      attained c (held-is c ∙ t) (one c (held-is c ∙ t)) (λ k h. omega (arith, one k h))
+      attained c (held_is c ∙ t) (one c (held_is c ∙ t)) (λ k h. omega (arith, one k h))
 
   -- where no counted code is held, what is held weighs 0
-  pub free-weightless : ((c : ℕ) → (holds c && counted c) ≡ false) → Lightest m 0 × Heaviest m 0
-  free-weightless never =
+  pub free_weightless : ((c : ℕ) → (holds c && counted c) ≡ false) → Lightest m 0 × Heaviest m 0
+  free_weightless never =
       weightless m (λ c t. counted_none c (elim (and_cases (holds c) (counted c) (never c)) [
-        | inl f ↦ absurd (both_ways (holds c) f (sym (held-is c) ∙ t))
+        | inl f ↦ absurd (both_ways (holds c) f (sym (held_is c) ∙ t))
         | inr f ↦ f
       ]))
 
@@ -115,22 +115,22 @@ module _ (x : Collection) where
   holding s = record { held = s; counted = x.counted }
 
   module _ (s : CodeSet) (c : ℕ) (below : c < 64) where
-    pub now-struck : ((k : ℕ) → member s k ≡ (holds k && not (k == c))) → collected (holding s) ≡ struck m c
-    now-struck agree = cells-struck weighs holds (member s) c below (λ k _. agree k)
+    pub now_struck : ((k : ℕ) → member s k ≡ (holds k && not (k == c))) → collected (holding s) ≡ struck m c
+    now_struck agree = cells-struck weighs holds (member s) c below (λ k _. agree k)
 
-    pub now-granted : ((k : ℕ) → member s k ≡ (holds k || (nat_lt k 64 && k == c))) → collected (holding s) ≡ granted m c
-    now-granted agree = cells-granted weighs holds (member s) c below (λ k h. agree k ∙ ap (λ b. holds k || (b && k == c)) (lt-ltb k 64 h))
+    pub now_granted : ((k : ℕ) → member s k ≡ (holds k || (nat_lt k 64 && k == c))) → collected (holding s) ≡ granted m c
+    now_granted agree = cells-granted weighs holds (member s) c below (λ k h. agree k ∙ ap (λ b. holds k || (b && k == c)) (lt-ltb k 64 h))
 
     -- what a strike of c leaves: nothing, or some other code
     module _ (agree : (k : ℕ) → member s k ≡ (holds k && not (k == c))) where
       pub alone : ((k : ℕ) → member s k ≡ false) → (k : ℕ) → held m k ≡ true → k ≡ c
       alone empty k t =
           elim (and_cases (holds k) (not (k == c)) (sym (agree k) ∙ empty k)) [
-            | inl f ↦ absurd (both_ways (holds k) f (sym (held-is k) ∙ t))
+            | inl f ↦ absurd (both_ways (holds k) f (sym (held_is k) ∙ t))
             | inr f ↦ eqb-true k c (not-false (k == c) f)
           ]
 
       pub other : (k : ℕ) → member s k ≡ true → (held m k ≡ true) × (k ≢ c)
       other k t =
           let both = and_parts (holds k) (not (k == c)) (sym (agree k) ∙ t) in
-          (held-is k ∙ both.0, eqb-false k c (not-true (k == c) both.1))
+          (held_is k ∙ both.0, eqb-false k c (not-true (k == c) both.1))

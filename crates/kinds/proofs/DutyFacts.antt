@@ -6,9 +6,9 @@ use Rattle.std.proofs.lemmas.Bool.Decides.{nat_tests}
 use Rattle.entry.specs.Cells.{Meaning, weigh, held, cells, NoGap, Sized}
 use Rattle.entry.specs.Edits.{struck, granted, Strikes, Grants}
 use Rattle.entry.specs.Weights.{Lightest, Heaviest}
-use Rattle.entry.proofs.CellFacts.{length-cells, held-cells, held-code, weigh-cells, weigh-below, cells-struck, cells-granted, cells-gapless}
+use Rattle.entry.proofs.CellFacts.{length-cells, held-cells, held_code, weigh-cells, weigh_below, cells-struck, cells-granted, cells-gapless}
 use Rattle.entry.proofs.Weighing.{attained, weightless}
-use Rattle.entry.proofs.Verdicts.{strikes-only, strikes-taken, grants-taken}
+use Rattle.entry.proofs.Verdicts.{strikes_only, strikes_taken, grants_taken}
 use Rattle.entry.specs.declared.refusal.Refusal.TheVariants.{OnlyCode}
 use Rattle.kinds.specs.declared.duty.Duty.{Duty}
 use Rattle.kinds.specs.Laws.{duty_light}
@@ -19,7 +19,7 @@ module _ (off on : Bool) where
   m = cells duty_weight (either off on)
 
   pub light : (c : ℕ) → weigh m c ≤ 1
-  light = weigh-below duty_weight (either off on) 1 (λ c h. duty_light c)
+  light = weigh_below duty_weight (either off on) 1 (λ c h. duty_light c)
 
   pub sized : Sized m
   sized = (length-cells duty_weight (either off on), λ c. omega (arith, light c))
@@ -42,7 +42,7 @@ module _ (off on : Bool) where
 
   pub which : (c : ℕ) → held m c ≡ true → ((c ≡ 0) × (off ≡ true)) ⊎ ((c ≡ 1) × (on ≡ true))
   which c t =
-      let h : either off on c ≡ true = (held-code duty_weight (either off on) c t).1 in
+      let h : either off on c ≡ true = (held_code duty_weight (either off on) c t).1 in
       elim (cases_eq c 0) [
         | inl z ↦ inl (z, sym (cond-true (c == 0) off _ (eq-eqb c 0 z)) ∙ h)
         | inr nz ↦ elim (cases_eq c 1) [
@@ -75,8 +75,8 @@ module _ (off on : Bool) where
   lightest-off t = attained 0 (at_off ∙ t) weigh-off (λ c h. omega arith)
 
   -- where 1 is not held, what is held weighs 0
-  pub off-weightless : on ≡ false → Lightest m 0 × Heaviest m 0
-  off-weightless f =
+  pub off_weightless : on ≡ false → Lightest m 0 × Heaviest m 0
+  off_weightless f =
       weightless m (λ c t. elim (which c t) [ inl z ↦ ap (weigh m) z.0 ∙ weigh-off | inr o ↦ absurd (both_ways on f o.1) ])
 
 -- strikes and grants, code by code
@@ -84,45 +84,45 @@ module _ (d : Duty) where
   fits : Sized (duties d)
   fits = sized d.off d.on
 
-  off-is : held (duties d) 0 ≡ d.off
-  off-is = at_off d.off d.on
+  off_is : held (duties d) 0 ≡ d.off
+  off_is = at_off d.off d.on
 
-  on-is : held (duties d) 1 ≡ d.on
-  on-is = at_on d.off d.on
+  on_is : held (duties d) 1 ≡ d.on
+  on_is = at_on d.off d.on
 
-  pub only-off-struck : d.off ≡ true → d.on ≡ false → Strikes duties duty_code 0 d (Err OnlyCode) d
-  only-off-struck t f =
-      strikes-only duties duty_code 0 d fits refl (off-is ∙ t)
+  pub only_off_struck : d.off ≡ true → d.on ≡ false → Strikes duties duty_code 0 d (Err OnlyCode) d
+  only_off_struck t f =
+      strikes_only duties duty_code 0 d fits refl (off_is ∙ t)
       (λ k h. elim (which d.off d.on k h) [ inl z ↦ z.0 | inr o ↦ absurd (both_ways d.on f o.1) ])
 
-  pub only-on-struck : d.on ≡ true → d.off ≡ false → Strikes duties duty_code 1 d (Err OnlyCode) d
-  only-on-struck t f =
-      strikes-only duties duty_code 1 d fits refl (on-is ∙ t)
+  pub only_on_struck : d.on ≡ true → d.off ≡ false → Strikes duties duty_code 1 d (Err OnlyCode) d
+  only_on_struck t f =
+      strikes_only duties duty_code 1 d fits refl (on_is ∙ t)
       (λ k h. elim (which d.off d.on k h) [ inl z ↦ absurd (both_ways d.off f z.1) | inr o ↦ o.0 ])
 
-  pub strikes-off : (d.off ≡ true → d.on ≡ true) → Strikes duties duty_code 0 d (Ok tt) (record { off = false; on = d.on })
-  strikes-off both =
-      strikes-taken duties duty_code 0 d fits _ refl
-      (λ t. (1, on-is ∙ both (sym off-is ∙ t), λ e. omega arith))
+  pub strikes_off : (d.off ≡ true → d.on ≡ true) → Strikes duties duty_code 0 d (Ok tt) (record { off = false; on = d.on })
+  strikes_off both =
+      strikes_taken duties duty_code 0 d fits _ refl
+      (λ t. (1, on_is ∙ both (sym off_is ∙ t), λ e. omega arith))
       (no_gap false d.on) (off-struck d.off d.on)
-      (λ f i. record { off = (sym f ∙ off-is) i; on = d.on })
+      (λ f i. record { off = (sym f ∙ off_is) i; on = d.on })
 
-  pub strikes-on : (d.on ≡ true → d.off ≡ true) → Strikes duties duty_code 1 d (Ok tt) (record { off = d.off; on = false })
-  strikes-on both =
-      strikes-taken duties duty_code 1 d fits _ refl
-      (λ t. (0, off-is ∙ both (sym on-is ∙ t), λ e. omega arith))
+  pub strikes_on : (d.on ≡ true → d.off ≡ true) → Strikes duties duty_code 1 d (Ok tt) (record { off = d.off; on = false })
+  strikes_on both =
+      strikes_taken duties duty_code 1 d fits _ refl
+      (λ t. (0, off_is ∙ both (sym on_is ∙ t), λ e. omega arith))
       (no_gap d.off false) (on-struck d.off d.on)
-      (λ f i. record { off = d.off; on = (sym f ∙ on-is) i })
+      (λ f i. record { off = d.off; on = (sym f ∙ on_is) i })
 
-  pub grants-off : Grants duties duty_code 0 d (Ok tt) (record { off = true; on = d.on })
-  grants-off =
-      grants-taken duties duty_code 0 d fits _ refl (no_gap true d.on) (off-granted d.off d.on)
-      (λ t i. record { off = (sym t ∙ off-is) i; on = d.on })
+  pub grants_off : Grants duties duty_code 0 d (Ok tt) (record { off = true; on = d.on })
+  grants_off =
+      grants_taken duties duty_code 0 d fits _ refl (no_gap true d.on) (off-granted d.off d.on)
+      (λ t i. record { off = (sym t ∙ off_is) i; on = d.on })
 
-  pub grants-on : Grants duties duty_code 1 d (Ok tt) (record { off = d.off; on = true })
-  grants-on =
-      grants-taken duties duty_code 1 d fits _ refl (no_gap d.off true) (on-granted d.off d.on)
-      (λ t i. record { off = d.off; on = (sym t ∙ on-is) i })
+  pub grants_on : Grants duties duty_code 1 d (Ok tt) (record { off = d.off; on = true })
+  grants_on =
+      grants_taken duties duty_code 1 d fits _ refl (no_gap d.off true) (on-granted d.off d.on)
+      (λ t i. record { off = d.off; on = (sym t ∙ on_is) i })
 
 -- what holds known codes alone is told by codes 0 and 1
 pub either_is : (holds : ℕ → Bool) (off on : Bool) → off ≡ holds 0 → on ≡ holds 1 → ((c : ℕ) → holds c ≡ true → duty_code c ≡ true) → (c : ℕ) → either off on c ≡ holds c

@@ -6,17 +6,17 @@ use Rattle.kinds.specs.Listings.{lists, all_known, listing_rows}
 
 module _ {X : Type 0} (known : ℕ → Bool) (ns : List ℕ) (x : X) where
   -- the answer of a call that a listing alone can refuse
-  pub all-taken : all_known known ns ≡ true → answered (topmost (listing_rows known ns)) x ≡ Ok x
-  all-taken t = rw t refl
+  pub all_taken : all_known known ns ≡ true → answered (topmost (listing_rows known ns)) x ≡ Ok x
+  all_taken t = rw t refl
 
-  one-refused : all_known known ns ≡ false → answered (topmost (listing_rows known ns)) x ≡ Err (row 9)
-  one-refused f = rw f refl
+  one_refused : all_known known ns ≡ false → answered (topmost (listing_rows known ns)) x ≡ Err (row 9)
+  one_refused f = rw f refl
 
-  pub taken-all : (y : X) → Ok y ≡ answered (topmost (listing_rows known ns)) x → (all_known known ns ≡ true) × (y ≡ x)
-  taken-all y e =
+  pub taken_all : (y : X) → Ok y ≡ answered (topmost (listing_rows known ns)) x → (all_known known ns ≡ true) × (y ≡ x)
+  taken_all y e =
       elim (cases_Bool (all_known known ns)) [
-        | inl t ↦ let o : Ok y ≡ Ok x = e ∙ all-taken t in (t, cc)
-        | inr f ↦ let o : ◌≡◌ {A = Result X Row} (Ok y) (Err (row 9)) = e ∙ one-refused f in let z : ◌≡◌ {A = ℕ} 0 1 = cc in absurd (omega arith)
+        | inl t ↦ let o : Ok y ≡ Ok x = e ∙ all_taken t in (t, cc)
+        | inr f ↦ let o : ◌≡◌ {A = Result X Row} (Ok y) (Err (row 9)) = e ∙ one_refused f in let z : ◌≡◌ {A = ℕ} 0 1 = cc in absurd (omega arith)
       ]
 
 -- of a listing with known codes alone, each code is known

@@ -6,18 +6,18 @@ use Rattle.std.proofs.lemmas.Bool.Decides.{nat_tests}
 use Rattle.entry.specs.Cells.{Meaning, weigh, held, NoGap, Sized}
 use Rattle.entry.specs.Edits.{struck, granted}
 use Rattle.entry.specs.Weights.{Lightest, Heaviest}
-use Rattle.entry.proofs.CellFacts.{length-cells, code-not, weigh-below, weigh-cells, weigh-marked, cells-struck, cells-granted, struck-stays, struck-was, granted-stays, granted-was}
+use Rattle.entry.proofs.CellFacts.{length-cells, code_not, weigh_below, weigh-cells, weigh-marked, cells-struck, cells-granted, struck_stays, struck_was, granted_stays, granted_was}
 use Rattle.entry.proofs.Weighing.{attained, weightless}
 use Rattle.kinds.specs.Laws.{in_run, run_in}
 use Rattle.kinds.specs.Spans.{spans, spanned}
 
 module _ (low high : ℕ) where
   pub sized : Sized (spanned low high)
-  sized = (length-cells (λ c. c) (spans low high), weigh-below (λ c. c) (spans low high) 63 (λ c h. omega arith))
+  sized = (length-cells (λ c. c) (spans low high), weigh_below (λ c. c) (spans low high) 63 (λ c h. omega arith))
 
   pub run_out : (c : ℕ) → (c < low) ⊎ (high < c) → held (spanned low high) c ≡ false
   run_out c side =
-      code-not (λ k. k) (spans low high) c (elim side [ inl s ↦ grind (arith, nat_tests) | inr s ↦ grind (arith, nat_tests) ])
+      code_not (λ k. k) (spans low high) c (elim side [ inl s ↦ grind (arith, nat_tests) | inr s ↦ grind (arith, nat_tests) ])
 
   pub lightest-low : low ≤ high → high ≤ 63 → Lightest (spanned low high) low
   lightest-low p q =
@@ -29,11 +29,11 @@ module _ (low high : ℕ) where
       let h = run_in low high high p (omega arith) (omega arith) in
       attained high h (in_run low high high h).3 (λ c t. omega (arith, (in_run low high c t).1, (in_run low high c t).3))
 
-  pub none-held : high < low → (c : ℕ) → held (spanned low high) c ≢ true
-  none-held p c t = omega (arith, (in_run low high c t).0, (in_run low high c t).1)
+  pub none_held : high < low → (c : ℕ) → held (spanned low high) c ≢ true
+  none_held p c t = omega (arith, (in_run low high c t).0, (in_run low high c t).1)
 
-  pub empty-weightless : high < low → Lightest (spanned low high) 0 × Heaviest (spanned low high) 0
-  empty-weightless p = weightless (spanned low high) (λ c t. absurd (none-held p c t))
+  pub empty_weightless : high < low → Lightest (spanned low high) 0 × Heaviest (spanned low high) 0
+  empty_weightless p = weightless (spanned low high) (λ c t. absurd (none_held p c t))
 
   module _ (c : ℕ) (below : c < 64) where
     -- an end can go
@@ -50,16 +50,16 @@ module _ (low high : ℕ) where
     inside = omega (arith, sized.0)
 
     -- a code between the ends cannot
-    pub inner-struck : low < c → c < high → high ≤ 63 → NoGap (struck m c) → ⊥
-    inner-struck p q top whole =
+    pub inner_struck : low < c → c < high → high ≤ 63 → NoGap (struck m c) → ⊥
+    inner_struck p q top whole =
         let a = run_in low high low (omega arith) (omega arith) (omega arith) in
         let b = run_in low high high (omega arith) (omega arith) (omega arith) in
         let found = whole low high c
-        (struck-stays m c inside low a (λ e. omega arith))
-        (struck-stays m c inside high b (λ e. omega arith))
+        (struck_stays m c inside low a (λ e. omega arith))
+        (struck_stays m c inside high b (λ e. omega arith))
         (omega (arith, weigh-marked m c false low, (in_run low high low a).3))
         (omega (arith, weigh-marked m c false high, (in_run low high high b).3)) in
-        let was = struck-was m c inside found.0 found.1 in
+        let was = struck_was m c inside found.0 found.1 in
         was.1 (omega (arith, found.2, weigh-marked m c false found.0, (in_run low high found.0 was.0).3))
 
     -- a code beside an end can come
@@ -69,18 +69,18 @@ module _ (low high : ℕ) where
     pub high-granted : high + 1 ≡ c → low ≤ high → spanned low c ≡ granted m c
     high-granted e p = cells-granted (λ k. k) (spans low high) (spans low c) c below (λ k h. grind (arith, nat_tests))
 
-    pub first-granted : high < low → spanned c c ≡ granted m c
-    first-granted p = cells-granted (λ k. k) (spans low high) (spans c c) c below (λ k h. grind (arith, nat_tests))
+    pub first_granted : high < low → spanned c c ≡ granted m c
+    first_granted p = cells-granted (λ k. k) (spans low high) (spans c c) c below (λ k h. grind (arith, nat_tests))
 
     -- one further off cannot
-    pub outer-granted : low ≤ high → high ≤ 63 → (c + 1 < low) ⊎ (high + 1 < c) → NoGap (granted m c) → ⊥
-    outer-granted p top side whole =
+    pub outer_granted : low ≤ high → high ≤ 63 → (c + 1 < low) ⊎ (high + 1 < c) → NoGap (granted m c) → ⊥
+    outer_granted p top side whole =
         let a = run_in low high low (omega arith) p (omega arith) in
         let b = run_in low high high p (omega arith) (omega arith) in
         let weighs : weigh m c ≡ c = weigh-cells (λ k. k) (spans low high) c ∙ cond-true (nat_lt c 64) c 0 (lt-ltb c 64 below) in
-        let here = granted-stays m c inside c (inr refl) in
+        let here = granted_stays m c inside c (inr refl) in
         let gone : (w : ℕ) → (w < low) ⊎ (high < w) → (w ≢ c) → ((k : ℕ) × (held (granted m c) k ≡ true) × (weigh (granted m c) k ≡ w)) → ⊥ =
-        λ w out other found. elim (granted-was m c inside found.0 found.1) [
+        λ w out other found. elim (granted_was m c inside found.0 found.1) [
           | inl h ↦ elim out [
             | inl s ↦ omega (arith, found.2, weigh-marked m c true found.0, (in_run low high found.0 h).0, (in_run low high found.0 h).3)
             | inr s ↦ omega (arith, found.2, weigh-marked m c true found.0, (in_run low high found.0 h).1, (in_run low high found.0 h).3)
@@ -88,8 +88,8 @@ module _ (low high : ℕ) where
           | inr e ↦ other (sym found.2 ∙ weigh-marked m c true found.0 ∙ ap (weigh m) e ∙ weighs)
         ] in
         elim side [
-          | inl s ↦ gone (c + 1) (inl s) (λ e. omega arith) (whole c low (c + 1) here (granted-stays m c inside low (inl a))
+          | inl s ↦ gone (c + 1) (inl s) (λ e. omega arith) (whole c low (c + 1) here (granted_stays m c inside low (inl a))
               (omega (arith, weigh-marked m c true c, weighs)) (omega (arith, weigh-marked m c true low, (in_run low high low a).3)))
-          | inr s ↦ gone (high + 1) (inr (omega arith)) (λ e. omega arith) (whole high c (high + 1) (granted-stays m c inside high (inl b)) here
+          | inr s ↦ gone (high + 1) (inr (omega arith)) (λ e. omega arith) (whole high c (high + 1) (granted_stays m c inside high (inl b)) here
               (omega (arith, weigh-marked m c true high, (in_run low high high b).3)) (omega (arith, weigh-marked m c true c, weighs)))
         ]

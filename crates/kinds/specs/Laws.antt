@@ -4,7 +4,7 @@ use Rattle.std.proofs.Common.{arith}
 use Rattle.std.proofs.lemmas.Bool.{and_parts, leb-true, le-leb, and_from}
 use Rattle.std.proofs.lemmas.Bool.Decides.{nat_tests}
 use Rattle.entry.specs.Cells.{weigh, held, cells, NoGap}
-use Rattle.entry.proofs.CellFacts.{held-code, code-held}
+use Rattle.entry.proofs.CellFacts.{held_code, code_held}
 use Rattle.kinds.specs.Duties.{duty_code, duty_weight, either}
 use Rattle.kinds.specs.Spans.{spans, spanned}
 
@@ -13,7 +13,7 @@ pub duty_light : (c : ℕ) → duty_weight c ≤ 1
 duty_light c = grind (arith, nat_tests)
 
 pub duty_held : (off on : Bool) (c : ℕ) → held (cells duty_weight (either off on)) c ≡ true → duty_code c ≡ true
-duty_held off on c t = let h = (held-code duty_weight (either off on) c t).1 in grind (arith, nat_tests)
+duty_held off on c t = let h = (held_code duty_weight (either off on) c t).1 in grind (arith, nat_tests)
 
 -- nor does one of a collection
 pub counted_light : (b : Bool) → (if b then 1 else 0) ≤ 1
@@ -24,13 +24,13 @@ module _ (low high : ℕ) where
   -- a held code lies in the run and weighs its number
   pub in_run : (c : ℕ) → held (spanned low high) c ≡ true → (low ≤ c) × (c ≤ high) × (c < 64) × (weigh (spanned low high) c ≡ c)
   in_run c t =
-      let code = held-code (λ k. k) (spans low high) c t in
+      let code = held_code (λ k. k) (spans low high) c t in
       let ends = and_parts (nat_le low c) (nat_le c high) code.1 in
       (leb-true low c ends.0, leb-true c high ends.1, code.0, code.2)
 
   pub run_in : (c : ℕ) → low ≤ c → c ≤ high → c < 64 → held (spanned low high) c ≡ true
   run_in c p q h =
-      code-held (λ k. k) (spans low high) c h (and_from (nat_le low c) (nat_le c high) (le-leb low c p) (le-leb c high q))
+      code_held (λ k. k) (spans low high) c h (and_from (nat_le low c) (nat_le c high) (le-leb low c p) (le-leb c high q))
 
   -- so a weight between two held ones is the code of that number
   pub run_gapless : NoGap (spanned low high)

@@ -124,7 +124,7 @@ impl Boxes {
 
 impl Entry for Boxes {
     ghost use Rattle.std.proofs.Common.{rules, arith};
-    ghost use Rattle.entry.proofs.CellFacts.{length-cells, held-known, weigh-unknown, weigh-below};
+    ghost use Rattle.entry.proofs.CellFacts.{length-cells, held-known, weigh_unknown, weigh_below};
     ghost use Rattle.kinds.specs.Codes.{any_code};
     ghost use Rattle.kinds.specs.Spans.{boxed, spans};
     ghost use Rattle.kinds.specs.Laws.{run_gapless};
@@ -145,9 +145,9 @@ impl Entry for Boxes {
 
     ghost holdings = { λ x. held-known (λ c. c) (spans x.low x.high) };
 
-    ghost unknowns = { λ x. weigh-unknown (λ c. c) (spans x.low x.high) };
+    ghost unknowns = { λ x. weigh_unknown (λ c. c) (spans x.low x.high) };
 
-    ghost weights = { λ x. weigh-below (λ c. c) (spans x.low x.high) 63 (λ c h. Prim.omega arith) };
+    ghost weights = { λ x. weigh_below (λ c. c) (spans x.low x.high) 63 (λ c h. Prim.omega arith) };
 
     ghost gapless = { λ x. run_gapless x.low x.high };
 

@@ -2,7 +2,7 @@ ghost use Rattle.std.specs.Prelude.{◌≡◌, ℕ, List};
 ghost use Rattle.std.proofs.Common.{rules};
 ghost use Rattle.codes.specs.Members.{member};
 ghost use Rattle.entry.specs.Refusals.{told};
-ghost use Rattle.entry.proofs.CellFacts.{length-cells, held-known, weigh-unknown, weigh-below, cells-gapless};
+ghost use Rattle.entry.proofs.CellFacts.{length-cells, held-known, weigh_unknown, weigh_below, cells-gapless};
 ghost use Rattle.kinds.specs.Listings.{Listed};
 ghost use Rattle.kinds.specs.Codes.{any_code};
 ghost use Rattle.kinds.specs.Collections.{collected, collection_of, weight_in};
@@ -123,9 +123,9 @@ impl Entry for Collection {
 
     ghost holdings = { λ x. held-known (weight_in (member x.counted)) (member x.held) };
 
-    ghost unknowns = { λ x. weigh-unknown (weight_in (member x.counted)) (member x.held) };
+    ghost unknowns = { λ x. weigh_unknown (weight_in (member x.counted)) (member x.held) };
 
-    ghost weights = { λ x. weigh-below (weight_in (member x.counted)) (member x.held) 1 (λ c h. counted_light (member x.counted c)) };
+    ghost weights = { λ x. weigh_below (weight_in (member x.counted)) (member x.held) 1 (λ c h. counted_light (member x.counted c)) };
 
     ghost gapless = { λ x. cells-gapless (weight_in (member x.counted)) (member x.held) (λ c. counted_light (member x.counted c)) };
 

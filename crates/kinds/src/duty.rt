@@ -2,7 +2,7 @@ ghost use Rattle.std.specs.Prelude.{◌≡◌, ℕ, List};
 ghost use Rattle.std.proofs.Common.{◌∙◌, arith, rules};
 ghost use Rattle.std.proofs.lemmas.Bool.Decides.{nat_tests};
 ghost use Rattle.entry.specs.Refusals.{told};
-ghost use Rattle.entry.proofs.CellFacts.{length-cells, weigh-cells, weigh-below, cells-gapless};
+ghost use Rattle.entry.proofs.CellFacts.{length-cells, weigh-cells, weigh_below, cells-gapless};
 ghost use Rattle.kinds.specs.Listings.{Listed};
 ghost use Rattle.kinds.specs.Duties.{duty_code, duties, duty_of, duty_weight, either};
 ghost use Rattle.kinds.specs.Laws.{duty_light, duty_held};
@@ -138,7 +138,7 @@ impl Entry for Duty {
 
     ghost unknowns = { λ x c u. weigh-cells duty_weight (either x.off x.on) c ∙ Prim.grind (arith, nat_tests) };
 
-    ghost weights = { λ x. weigh-below duty_weight (either x.off x.on) 1 (λ c h. duty_light c) };
+    ghost weights = { λ x. weigh_below duty_weight (either x.off x.on) 1 (λ c h. duty_light c) };
 
     ghost gapless = { λ x. cells-gapless duty_weight (either x.off x.on) duty_light };
 

@@ -33,8 +33,8 @@ module _ {X : Type 0} (test : X → Bool) where
       by false e h = (All-nil (λ y. test y ≡ true), λ lt d. e)
 
   -- the first that fails, where one does
-  pub first-failing : (xs : List X) (n : ℕ) → failing test xs ≡ Some n → FirstFailing test xs n
-  first-failing xs n e =
+  pub first_failing : (xs : List X) (n : ℕ) → failing test xs ≡ Some n → FirstFailing test xs n
+  first_failing xs n e =
       let k = prefix_len test xs in
       let found : (ltb k (length xs) ≡ true) × (k + 1 ≡ n) = some_is (ltb k (length xs)) (k + 1) n e in
       let lt : k < length xs = ltb-true k (length xs) found.0 in
@@ -47,8 +47,8 @@ module _ {X : Type 0} (test : X → Bool) where
       )
 
   -- none fails
-  pub none-failing : (xs : List X) → failing test xs ≡ None → AllPass test xs
-  none-failing xs e =
+  pub none_failing : (xs : List X) → failing test xs ≡ None → AllPass test xs
+  none_failing xs e =
       let k = prefix_len test xs in
       let past : length xs ≤ k = elim (cases_lt k (length xs)) [
         | inl lt ↦ absurd (true≢false (ap is_some (ap (λ b. cond b (Some (k + 1)) None) (sym (lt-ltb k (length xs) lt)) ∙ e)))
@@ -57,23 +57,23 @@ module _ {X : Type 0} (test : X → Bool) where
       subst (AllPass test) (take_all k xs past) (led xs).0
 
   -- not all pass where one fails
-  pub some-fails : (xs : List X) (n : ℕ) → FirstFailing test xs n → AllPass test xs → ⊥
-  some-fails [] n f h = let from = f.0 in let to = f.1 in omega arith
-  some-fails (x ∷ xs) n f h =
+  pub some_fails : (xs : List X) (n : ℕ) → FirstFailing test xs n → AllPass test xs → ⊥
+  some_fails [] n f h = let from = f.0 in let to = f.1 in omega arith
+  some_fails (x ∷ xs) n f h =
       let from = f.0 in
       let to = f.1 in
       true≢false (sym (h (n - 1) x (omega arith)) ∙ f.2 x)
 
-by-force : (force kept ends : Bool) → (not force || kept) ≡ false → (not force || ends) ≡ true → ends ≡ true
-by-force true kept ends p q = q
-by-force false kept ends p q = absurd (true≢false p)
+by_force : (force kept ends : Bool) → (not force || kept) ≡ false → (not force || ends) ≡ true → ends ≡ true
+by_force true kept ends p q = q
+by_force false kept ends p q = absurd (true≢false p)
 
 -- a broken rule is in force, and so ends within the days where each rule in force does
-broken-ends : (days : List Meaning) (roster : Roster) (r : Rule) (n : ℕ)
+broken_ends : (days : List Meaning) (roster : Roster) (r : Rule) (n : ℕ)
     → keeps days roster r ≡ false → ends_within n r ≡ true → r.last ≤ n
-broken-ends days roster r n p q =
+broken_ends days roster r n p q =
     let w = stretch_weight days roster r in
-    let e = by-force r.in_force (leb r.least w && leb w r.most) (leb r.last n) p q in
+    let e = by_force r.in_force (leb r.least w && leb w r.most) (leb r.last n) p q in
     grind (arith, nat_tests)
 
 -- what the two searches tell of a roster: what is shown, and what it means
@@ -81,12 +81,12 @@ module _ (l : Ledger) (roster : Roster) where
   abbrev pairs : List (Meaning × ℕ)
   pairs = zip l.days roster
 
-  pub day-fault : (day : ℕ) → Some day ≡ failing holds_its_code pairs
+  pub day_fault : (day : ℕ) → Some day ≡ failing holds_its_code pairs
       → (not_held day ≡ verdict l roster) × ((Lawful l roster → ⊥) × FirstFailing holds_its_code pairs day)
-  day-fault day e =
-      let f = first-failing holds_its_code pairs day (sym e) in (
+  day_fault day e =
+      let f = first_failing holds_its_code pairs day (sym e) in (
         ap (λ o. first_fault l roster o (failing (keeps l.days roster) l.rules)) e,
-        ((λ h. some-fails holds_its_code pairs day f h.held), f),
+        ((λ h. some_fails holds_its_code pairs day f h.held), f),
       )
 
   module _ (rules : List Rule) (same : rules ≡ l.rules) (held : None ≡ failing holds_its_code pairs) where
@@ -97,8 +97,8 @@ module _ (l : Ledger) (roster : Roster) where
           (λ i. first_fault l roster (held i) (kept i)),
           record {
             long = long;
-            held = none-failing holds_its_code pairs (sym held);
-            kept = none-failing (keeps l.days roster) l.rules (sym kept);
+            held = none_failing holds_its_code pairs (sym held);
+            kept = none_failing (keeps l.days roster) l.rules (sym kept);
           },
         )
 
@@ -107,33 +107,33 @@ module _ (l : Ledger) (roster : Roster) where
       rule = get_or rules (number - 1) no_rule
 
       -- the rule's days lie within the plan where each rule in force does
-      pub rule-within : (n : ℕ) → Bounds rules → failing (ends_within n) l.rules ≡ None
+      pub rule_within : (n : ℕ) → Bounds rules → failing (ends_within n) l.rules ≡ None
           → (1 ≤ rule.first) × (rule.first ≤ rule.last) × (rule.last ≤ n)
-      rule-within n bounds none =
-          let f = first-failing (keeps l.days roster) rules number (sym fails) in
+      rule_within n bounds none =
+          let f = first_failing (keeps l.days roster) rules number (sym fails) in
           let from = f.0 in
           let to = f.1 in
           let lt : number - 1 < length rules = omega arith in
           let b = bounds (number - 1) lt in
-          let within = none-failing (ends_within n) rules (ap (failing (ends_within n)) same ∙ none) in
+          let within = none_failing (ends_within n) rules (ap (failing (ends_within n)) same ∙ none) in
           let ends = within (number - 1) no_rule lt in
-          (b.0, b.1, broken-ends l.days roster rule n (f.2 no_rule) ends)
+          (b.0, b.1, broken_ends l.days roster rule n (f.2 no_rule) ends)
 
-      pub rule-fault : (part : Roster) → part ≡ stretch rule roster → (let r = numbered l.rules number in
+      pub rule_fault : (part : Roster) → part ≡ stretch rule roster → (let r = numbered l.rules number in
           (broken number rule.first rule.last part ≡ verdict l roster)
           × ((Lawful l roster → ⊥) × AllPass holds_its_code pairs
           × FirstFailing (keeps l.days roster) l.rules number
           × (rule.first ≡ r.first) × (rule.last ≡ r.last) × (part ≡ stretch r roster)))
-      rule-fault part e =
+      rule_fault part e =
           let here : Some number ≡ failing (keeps l.days roster) l.rules =
           fails ∙ ap (failing (keeps l.days roster)) same in
-          let f = first-failing (keeps l.days roster) l.rules number (sym here) in
+          let f = first_failing (keeps l.days roster) l.rules number (sym here) in
           let r : rule ≡ numbered l.rules number = ap (λ rs. get_or rs (number - 1) no_rule) same in
           let shown : part ≡ stretch (numbered l.rules number) roster = e ∙ ap (λ x. stretch x roster) r in (
             (λ i. broken number (r i).first (r i).last (shown i)) ∙ (λ i. first_fault l roster (held i) (here i)),
             (
-              (λ h. some-fails (keeps l.days roster) l.rules number f h.kept),
-              none-failing holds_its_code pairs (sym held),
+              (λ h. some_fails (keeps l.days roster) l.rules number f h.kept),
+              none_failing holds_its_code pairs (sym held),
               f,
               ap (λ (x : Rule). x.first) r,
               ap (λ (x : Rule). x.last) r,

@@ -14,19 +14,19 @@ module _ {X : Type 0} (test : X → Bool) (all : List X) where
     counts : (b : Bool) → b ≡ test x → cond b (1 + prefix_len test rest) 0 ≡ prefix_len test (x ∷ rest)
     counts b e = ap (λ t. cond t (1 + prefix_len test rest) 0) e
 
-    pub passing-more : true ≡ test x → Passing (place + 1) rest
-    passing-more e = (omega (arith, p.0, counts true e), omega (arith, p.1))
+    pub passing_more : true ≡ test x → Passing (place + 1) rest
+    passing_more e = (omega (arith, p.0, counts true e), omega (arith, p.1))
 
-    pub failing-here : false ≡ test x → Some place ≡ failing test all
-    failing-here e =
+    pub failing_here : false ≡ test x → Some place ≡ failing test all
+    failing_here e =
         let n = prefix_len test all in
         let at : place ≡ n + 1 = omega (arith, p.0, counts false e) in
         let long = p.1 in
         let some : true ≡ ltb n (length all) = grind (arith, nat_tests) in
         ap Some at ∙ ap (λ b. cond b (Some (n + 1)) None) some
 
-  pub failing-nowhere : (place : ℕ) → Passing place [] → None ≡ failing test all
-  failing-nowhere place p =
+  pub failing_nowhere : (place : ℕ) → Passing place [] → None ≡ failing test all
+  failing_nowhere place p =
       let n = prefix_len test all in
       let same = p.0 in
       let long = p.1 in
@@ -38,11 +38,11 @@ module _ {X : Type 0} (test : X → Bool) (all : List X) where
     next : (d : X) → i < length all → Passing place (get_or all i d ∷ drop (i + 1) all)
     next d lt = subst (Passing place) (drop_more all i d lt) p
 
-    pub slice-more : (d : X) → i < length all → true ≡ test (get_or all i d) → Passing (place + 1) (drop (i + 1) all)
-    slice-more d lt = passing-more place (get_or all i d) (drop (i + 1) all) (next d lt)
+    pub slice_more : (d : X) → i < length all → true ≡ test (get_or all i d) → Passing (place + 1) (drop (i + 1) all)
+    slice_more d lt = passing_more place (get_or all i d) (drop (i + 1) all) (next d lt)
 
-    pub slice-here : (d : X) → i < length all → false ≡ test (get_or all i d) → Some place ≡ failing test all
-    slice-here d lt = failing-here place (get_or all i d) (drop (i + 1) all) (next d lt)
+    pub slice_here : (d : X) → i < length all → false ≡ test (get_or all i d) → Some place ≡ failing test all
+    slice_here d lt = failing_here place (get_or all i d) (drop (i + 1) all) (next d lt)
 
-    pub slice-nowhere : length all ≤ i → None ≡ failing test all
-    slice-nowhere le = failing-nowhere place (subst (Passing place) (drop_all i all le) p)
+    pub slice_nowhere : length all ≤ i → None ≡ failing test all
+    slice_nowhere le = failing_nowhere place (subst (Passing place) (drop_all i all le) p)

@@ -3,7 +3,7 @@ use Rattle.std.proofs.lemmas.List.{at_drop_all}
 use Rattle.ledger.specs.declared.call.Call.TheVariants.{Rule}
 use Rattle.ledger.specs.Ledgers.{ledger, after_all}
 use Rattle.course.specs.Runs.{Whole, Run}
-use Rattle.course.proofs.RunFacts.{call-worked, run_of, starts-good}
+use Rattle.course.proofs.RunFacts.{call_worked, run_of, starts_good}
 use Rattle.course.proofs.work_all.Goals as goal
 
 pub loop-call-preserved : goal.loop-call-preserved
@@ -14,7 +14,7 @@ loop-call-preserved g c =
     let now = plan c.work.new.entries c.work.new.book in
     let next = c.loop-call-test.true in
     let worked = c.work.ensures in
-    call-worked was now c.args.calls.now c.loop-call.call-index (Rule 0 0 0 0) next worked ∙ c.loop-call.invariant
+    call_worked was now c.args.calls.now c.loop-call.call-index (Rule 0 0 0 0) next worked ∙ c.loop-call.invariant
 
 pub returns : goal.returns
 returns g c =
@@ -30,4 +30,4 @@ returns g c =
     let run = subst (Run (plan entries book) calls) (sym done) (run_of (plan entries book) calls) in
     let whole : (x : _) → Whole (e.meaning x) =
     λ x. ((laws.cells x, λ code. omega (arith, laws.weights x code, laws.range.1)), laws.gapless x) in
-    record { run = run; good = λ start. run.good (starts-good e.TOP e.known e.meaning whole entries book start) }
+    record { run = run; good = λ start. run.good (starts_good e.TOP e.known e.meaning whole entries book start) }

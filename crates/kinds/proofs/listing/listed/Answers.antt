@@ -13,9 +13,9 @@ moved false true e rest h = refl
 moved false false false rest h = refl
 moved false false true rest h = ap (λ l. (l && true) || rest) (h refl)
 
-ends-false : (m : Bool) → (m || false) ≡ m
-ends-false true = refl
-ends-false false = refl
+ends_false : (m : Bool) → (m || false) ≡ m
+ends_false true = refl
+ends_false false = refl
 
 pub loop-code-init : goal.loop-code-init
 loop-code-init g c = (refl, λ k. ap (λ b. b || lists c.args.codes.now k) (c.empty-set.ensures k))
@@ -57,7 +57,7 @@ returns g c =
     let i = c.loop-code.code-index in
     let all : all_known known ns ≡ true = sym c.loop-code.invariant.0 ∙ at_drop_all (all_known known) ns i c.loop-code-test.false in
     let same : member c.loop-code.set ≡ lists ns =
-    λ j k. (sym (ends-false (member c.loop-code.set k))
+    λ j k. (sym (ends_false (member c.loop-code.set k))
     ∙ ap (λ b. member c.loop-code.set k || b) (sym (at_drop_all (λ xs. lists xs k) ns i c.loop-code-test.false))
     ∙ c.loop-code.invariant.1 k) j in
     ap Ok same ∙ ap (λ b. answered (cond (not b) (Some (row 9)) None) (lists ns)) (sym all)

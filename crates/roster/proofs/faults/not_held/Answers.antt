@@ -3,8 +3,8 @@ use Rattle.std.specs.List.{zip}
 use Rattle.std.proofs.lemmas.List.{length-map}
 use Rattle.std.proofs.lemmas.Slice.Zip.{either_empty_from_Zip, length-zip}
 use Rattle.ledger.specs.Rosters.{holds_its_code}
-use Rattle.roster.proofs.Firsts.{Passing, failing-nowhere}
-use Rattle.roster.proofs.Pairs.{zipped-end}
+use Rattle.roster.proofs.Firsts.{Passing, failing_nowhere}
+use Rattle.roster.proofs.Pairs.{zipped_end}
 use Rattle.roster.proofs.faults.not_held.Goals as goal
 
 pub overflow_add-day : goal.overflow_add-day
@@ -27,4 +27,4 @@ returns g c =
     let empty = either_empty_from_Zip c.loop-entry.entry-iterator next.new.self next.result
     c.in-None.is next.ensures.steps in
     let day = c.loop-entry.day in
-    failing-nowhere holds_its_code all day (subst (Passing holds_its_code all day) (zipped-end f _ _ empty) c.loop-entry.invariant)
+    failing_nowhere holds_its_code all day (subst (Passing holds_its_code all day) (zipped_end f _ _ empty) c.loop-entry.invariant)

@@ -1,7 +1,7 @@
 use Rattle.std.proofs.Common.{◌≤◌, arith, rules}
 use Rattle.ledger.specs.Ledgers.{ends_within}
 use Rattle.ledger.specs.Rules.{no_rule}
-use Rattle.roster.proofs.Firsts.{slice-more, slice-here, slice-nowhere}
+use Rattle.roster.proofs.Firsts.{slice_more, slice_here, slice_nowhere}
 use Rattle.roster.proofs.faults.past_days.Goals as goal
 
 pub overflow_add-number : goal.overflow_add-number
@@ -14,17 +14,17 @@ overflow_add-number c =
 pub loop-rule-preserved : goal.loop-rule-preserved
 loop-rule-preserved c =
     let at = c.loop-rule in
-    slice-more (ends_within c.args.days) c.args.rules.now at.rule-index at.number at.invariant no_rule
+    slice_more (ends_within c.args.days) c.args.rules.now at.rule-index at.number at.invariant no_rule
     c.loop-rule-test.true c.if-not-ends_within.ensures
 
 pub returns-then-not-ends_within : goal.returns-then-not-ends_within
 returns-then-not-ends_within c =
     let at = c.loop-rule in
-    slice-here (ends_within c.args.days) c.args.rules.now at.rule-index at.number at.invariant no_rule
+    slice_here (ends_within c.args.days) c.args.rules.now at.rule-index at.number at.invariant no_rule
     c.loop-rule-test.true c.if-not-ends_within.ensures
 
 pub returns : goal.returns
 returns c =
     let at = c.loop-rule in
-    slice-nowhere (ends_within c.args.days) c.args.rules.now at.rule-index at.number at.invariant
+    slice_nowhere (ends_within c.args.days) c.args.rules.now at.rule-index at.number at.invariant
     c.loop-rule-test.false

@@ -1,6 +1,6 @@
 use Rattle.std.proofs.Common.{◌-◌, length, ap, arith}
 use Rattle.std.proofs.lemmas.List.Edits.{length-between}
-use Rattle.roster.proofs.Pairs.{stretch-weighs}
+use Rattle.roster.proofs.Pairs.{stretch_weighs}
 use Rattle.roster.proofs.stretches.stretch_weight.Goals as goal
 
 pub weight_of-requires : goal.weight_of-requires
@@ -14,5 +14,5 @@ pub returns : goal.returns
 returns g c =
     let entries = c.stretch in
     let codes = c.stretch-2 in
-    stretch-weighs g.E.Entry.meaning c.args.rule c.args.entries.now entries.result.now c.args.roster.now
+    stretch_weighs g.E.Entry.meaning c.args.rule c.args.entries.now entries.result.now c.args.roster.now
     codes.result.now c.weight_of.result entries.ensures codes.ensures c.weight_of.ensures

@@ -1,11 +1,11 @@
 use Rattle.std.proofs.Common.{◌+◌, ◌<◌, ◌⊎◌, inl, inr, arith}
 use Rattle.std.proofs.lemmas.Bool.{both_ways, lt-ltb, le-ltb}
 use Rattle.entry.proofs.CellFacts.{held-known}
-use Rattle.entry.proofs.Verdicts.{grants-unknown, grants-gap, grants-taken, grants-idle}
+use Rattle.entry.proofs.Verdicts.{grants_unknown, grants_gap, grants_taken, grants_idle}
 use Rattle.kinds.specs.Codes.{any_code}
 use Rattle.kinds.specs.Spans.{boxed, spans}
 use Rattle.kinds.specs.Laws.{run_gapless, run_in}
-use Rattle.kinds.proofs.SpanFacts.{sized, run_out, none-held, low-granted, high-granted, first-granted, outer-granted}
+use Rattle.kinds.proofs.SpanFacts.{sized, run_out, none_held, low-granted, high-granted, first_granted, outer_granted}
 use Rattle.kinds.proofs.boxes.Boxes.granted.Goals as goal
 use Rattle.kinds.proofs.boxes.Boxes.granted.Goals.{else-low-code-via-then-low-code+else-code-high, else-low-code-via-else-low-code}
 
@@ -13,7 +13,7 @@ pub returns-then-code-gt63 : goal.returns-then-code-gt63
 returns-then-code-gt63 c =
     let b = c.args.self in
     let code = c.args.code in
-    grants-unknown boxed any_code code b (sized b.low b.high) (le-ltb code 64 (omega arith))
+    grants_unknown boxed any_code code b (sized b.low b.high) (le-ltb code 64 (omega arith))
     (held-known (λ k. k) (spans b.low b.high) code)
 
 pub returns-then-high-low : goal.returns-then-high-low
@@ -21,16 +21,16 @@ returns-then-high-low c =
     let b = c.args.self in
     let code = c.args.code in
     let below : code < 64 = omega arith in
-    grants-taken boxed any_code code b (sized b.low b.high) _ (lt-ltb code 64 below) (run_gapless _ _)
-    (first-granted b.low b.high code below (omega arith))
-    (λ t. absurd (none-held b.low b.high (omega arith) code t))
+    grants_taken boxed any_code code b (sized b.low b.high) _ (lt-ltb code 64 below) (run_gapless _ _)
+    (first_granted b.low b.high code below (omega arith))
+    (λ t. absurd (none_held b.low b.high (omega arith) code t))
 
 pub returns-then-code-high : goal.returns-then-code-high
 returns-then-code-high c =
     let b = c.args.self in
     let code = c.args.code in
     let below : code < 64 = omega arith in
-    grants-idle boxed any_code code b (sized b.low b.high) (lt-ltb code 64 below)
+    grants_idle boxed any_code code b (sized b.low b.high) (lt-ltb code 64 below)
     (run_in b.low b.high code (omega arith) (omega arith) below) (run_gapless b.low b.high)
 
 pub returns-then-code-low : goal.returns-then-code-low
@@ -38,7 +38,7 @@ returns-then-code-low c =
     let b = c.args.self in
     let code = c.args.code in
     let below : code < 64 = omega arith in
-    grants-taken boxed any_code code b (sized b.low b.high) _ (lt-ltb code 64 below) (run_gapless _ _)
+    grants_taken boxed any_code code b (sized b.low b.high) _ (lt-ltb code 64 below) (run_gapless _ _)
     (low-granted b.low b.high code below (omega arith) (omega arith))
     (λ t. absurd (both_ways _ (run_out b.low b.high code (inl (omega arith))) t))
 
@@ -47,7 +47,7 @@ returns-then-high-code c =
     let b = c.args.self in
     let code = c.args.code in
     let below : code < 64 = omega arith in
-    grants-taken boxed any_code code b (sized b.low b.high) _ (lt-ltb code 64 below) (run_gapless _ _)
+    grants_taken boxed any_code code b (sized b.low b.high) _ (lt-ltb code 64 below) (run_gapless _ _)
     (high-granted b.low b.high code below (omega arith) (omega arith))
     (λ t. absurd (both_ways _ (run_out b.low b.high code (inr (omega arith))) t))
 
@@ -61,6 +61,6 @@ returns c =
       | else-low-code-via-then-low-code+else-code-high w ↦ inr (omega (arith, w.if-code-high.false))
       | else-low-code-via-else-low-code w ↦ inl (omega (arith, w.if-low-code.false))
     ] in
-    grants-gap boxed any_code code b (sized b.low b.high) (lt-ltb code 64 below)
+    grants_gap boxed any_code code b (sized b.low b.high) (lt-ltb code 64 below)
     (run_out b.low b.high code (elim side [ inl s ↦ inl (omega arith) | inr s ↦ inr (omega arith) ]))
-    (outer-granted b.low b.high code below (omega arith) (omega arith) side)
+    (outer_granted b.low b.high code below (omega arith) (omega arith) side)

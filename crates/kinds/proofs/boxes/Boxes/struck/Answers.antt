@@ -1,22 +1,22 @@
 use Rattle.std.proofs.Common.{◌<◌, inl, inr, arith}
 use Rattle.std.proofs.lemmas.Bool.{both_ways, lt-ltb, le-ltb}
-use Rattle.entry.proofs.Verdicts.{strikes-unknown, strikes-only, strikes-gap, strikes-taken, strikes-idle}
+use Rattle.entry.proofs.Verdicts.{strikes_unknown, strikes_only, strikes_gap, strikes_taken, strikes_idle}
 use Rattle.kinds.specs.Codes.{any_code}
 use Rattle.kinds.specs.Spans.{boxed}
 use Rattle.kinds.specs.Laws.{run_gapless, in_run, run_in}
-use Rattle.kinds.proofs.SpanFacts.{sized, run_out, low-struck, high-struck, inner-struck}
+use Rattle.kinds.proofs.SpanFacts.{sized, run_out, low-struck, high-struck, inner_struck}
 use Rattle.kinds.proofs.boxes.Boxes.struck.Goals as goal
 use Rattle.kinds.proofs.boxes.Boxes.struck.Goals.{then-code-low-via-then-code-low, then-code-low-via-else-code-low+then-high-code}
 
 pub returns-then-code-gt63 : goal.returns-then-code-gt63
 returns-then-code-gt63 c =
     let b = c.args.self in
-    strikes-unknown boxed any_code c.args.code b (sized b.low b.high) (le-ltb c.args.code 64 (omega arith))
+    strikes_unknown boxed any_code c.args.code b (sized b.low b.high) (le-ltb c.args.code 64 (omega arith))
 
 pub returns-then-code-low : goal.returns-then-code-low
 returns-then-code-low c =
     let b = c.args.self in
-    strikes-idle boxed any_code c.args.code b (sized b.low b.high) (lt-ltb c.args.code 64 (omega arith))
+    strikes_idle boxed any_code c.args.code b (sized b.low b.high) (lt-ltb c.args.code 64 (omega arith))
     (run_out b.low b.high c.args.code (elim c.then-code-low.branch [
       | then-code-low-via-then-code-low w ↦ inl w.if-code-low.true
       | then-code-low-via-else-code-low+then-high-code w ↦ inr w.if-high-code.true
@@ -27,7 +27,7 @@ pub returns-then-low-high : goal.returns-then-low-high
 returns-then-low-high c =
     let b = c.args.self in
     let code = c.args.code in
-    strikes-only boxed any_code code b (sized b.low b.high) (lt-ltb code 64 (omega arith))
+    strikes_only boxed any_code code b (sized b.low b.high) (lt-ltb code 64 (omega arith))
     (run_in b.low b.high code (omega arith) (omega arith) (omega arith))
     (λ k t. omega (arith, (in_run b.low b.high k t).0, (in_run b.low b.high k t).1))
 
@@ -36,7 +36,7 @@ returns-then-code-low-2 c =
     let b = c.args.self in
     let code = c.args.code in
     let below : code < 64 = omega arith in
-    strikes-taken boxed any_code code b (sized b.low b.high) _ (lt-ltb code 64 below)
+    strikes_taken boxed any_code code b (sized b.low b.high) _ (lt-ltb code 64 below)
     (λ _. (b.high, run_in b.low b.high b.high (omega arith) (omega arith) (omega arith), λ e. omega arith))
     (run_gapless _ _)
     (low-struck b.low b.high code below (omega arith) (omega arith))
@@ -47,7 +47,7 @@ returns-then-code-high c =
     let b = c.args.self in
     let code = c.args.code in
     let below : code < 64 = omega arith in
-    strikes-taken boxed any_code code b (sized b.low b.high) _ (lt-ltb code 64 below)
+    strikes_taken boxed any_code code b (sized b.low b.high) _ (lt-ltb code 64 below)
     (λ _. (b.low, run_in b.low b.high b.low (omega arith) (omega arith) (omega arith), λ e. omega arith))
     (run_gapless _ _)
     (high-struck b.low b.high code below (omega arith) (omega arith))
@@ -58,7 +58,7 @@ returns c =
     let b = c.args.self in
     let code = c.args.code in
     let below : code < 64 = omega arith in
-    strikes-gap boxed any_code code b (sized b.low b.high) (lt-ltb code 64 below)
+    strikes_gap boxed any_code code b (sized b.low b.high) (lt-ltb code 64 below)
     (run_in b.low b.high code (omega arith) (omega arith) below)
     (b.low, run_in b.low b.high b.low (omega arith) (omega arith) (omega arith), λ e. omega arith)
-    (inner-struck b.low b.high code below (omega arith) (omega arith) (omega arith))
+    (inner_struck b.low b.high code below (omega arith) (omega arith) (omega arith))

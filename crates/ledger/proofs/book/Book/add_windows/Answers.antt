@@ -1,7 +1,7 @@
 use Rattle.std.proofs.Common.{◌≡◌, ◌+◌, ◌-◌, ◌*◌, ◌≤◌, ◌++◌, length, sym, ap, ◌∙◌, subst, append-nil, arith, length-append}
 use Rattle.std.proofs.lemmas.List.FromFn.{length-map-range_with_len}
 use Rattle.ledger.specs.Rules.{windows}
-use Rattle.ledger.proofs.BookFacts.{windows-more}
+use Rattle.ledger.proofs.BookFacts.{windows_more}
 use Rattle.ledger.proofs.book.Book.add_windows.Goals as goal
 
 pub loop-first-init : goal.loop-first-init
@@ -21,8 +21,8 @@ add-requires g c =
     let start = inv.0 in
     let days = c.requires.2 (λ e. absurd (omega arith)) in
     let wide = c.requires.1 in
-    let length-is : width ≡ first + width - 1 - first + 1 = omega arith in
-    let most = subst (λ n. c.args.most ≤ g.E.Entry.TOP * n) length-is c.requires.4 in
+    let length_is : width ≡ first + width - 1 - first + 1 = omega arith in
+    let most = subst (λ n. c.args.most ≤ g.E.Entry.TOP * n) length_is c.requires.4 in
     (omega arith, (start, omega arith, omega arith, c.requires.3, most))
 
 pub loop-first-preserved : goal.loop-first-preserved
@@ -30,7 +30,7 @@ loop-first-preserved g c =
     let inv = c.loop-first.invariant in (
       omega arith,
       omega (arith, c.loop-first-test.true),
-      windows-more c.args.self.now c.loop-first.self c.add.new.self
+      windows_more c.args.self.now c.loop-first.self c.add.new.self
           c.loop-first.first c.args.width c.args.least c.args.most inv.0 inv.2 c.add.ensures,
     )
 
