@@ -1,5 +1,5 @@
-ghost use Rattle.std.specs.Iterator.{YieldsFirst, item_count};
-ghost use Rattle.codes.specs.Coming.{coming};
+ghost use Rattle.std.specs.Iterator.{item_count};
+ghost use Rattle.codes.specs.Coming.{coming, Gives};
 ghost use Rattle.codes.specs.Members.{Listing};
 
 use crate::set::CodeSet;
@@ -23,7 +23,7 @@ impl Iterator for Codes {
 
     ghost can_next = { λ _. Unit {0} };
 
-    ghost next_gives = { YieldsFirst coming };
+    ghost next_gives = { Gives };
 
     ghost remaining = { item_count coming };
 
