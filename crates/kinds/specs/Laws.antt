@@ -12,8 +12,8 @@ use Rattle.kinds.specs.Spans.{spans, spanned}
 pub duty_light : (c : ℕ) → duty_weight c ≤ 1
 duty_light c = grind (arith, nat_tests)
 
-pub duty_held : (off on : Bool) (c : ℕ) → held (cells duty_weight (either off on)) c ≡ true → duty_code c ≡ true
-duty_held off on c t = let h = (held_code duty_weight (either off on) c t).1 in grind (arith, nat_tests)
+pub held-duty_code : (off on : Bool) (c : ℕ) → held (cells duty_weight (either off on)) c ≡ true → duty_code c ≡ true
+held-duty_code off on c t = let h = (held_code duty_weight (either off on) c t).1 in grind (arith, nat_tests)
 
 -- nor does one of a collection
 pub counted_light : (b : Bool) → (if b then 1 else 0) ≤ 1

@@ -151,6 +151,10 @@ impl Entry for Boxes {
 
     ghost gapless = { λ x. run_gapless x.low x.high };
 
+    fn top_weight() -> u32 {
+        Self::TOP
+    }
+
     fn known(code: u32) -> bool {
         code < 64
     }

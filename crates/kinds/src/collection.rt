@@ -129,6 +129,10 @@ impl Entry for Collection {
 
     ghost gapless = { λ x. cells-gapless (weight_in (member x.counted)) (member x.held) (λ c. counted_light (member x.counted c)) };
 
+    fn top_weight() -> u32 {
+        Self::TOP
+    }
+
     fn known(code: u32) -> bool {
         code < 64
     }

@@ -5,7 +5,7 @@ ghost use Rattle.entry.specs.Refusals.{told};
 ghost use Rattle.entry.proofs.CellFacts.{length-cells, weigh-cells, weigh_below, cells-gapless};
 ghost use Rattle.kinds.specs.Listings.{Listed};
 ghost use Rattle.kinds.specs.Duties.{duty_code, duties, duty_of, duty_weight, either};
-ghost use Rattle.kinds.specs.Laws.{duty_light, duty_held};
+ghost use Rattle.kinds.specs.Laws.{duty_light, held-duty_code};
 ghost use Rattle.kinds.specs.Told.{CellOf, WeightsOf, Struck, Granted};
 
 use crate::cell::{Cell, Weights};
@@ -134,13 +134,17 @@ impl Entry for Duty {
 
     ghost cells = { λ x. length-cells duty_weight (either x.off x.on) };
 
-    ghost holdings = { λ x. duty_held x.off x.on };
+    ghost holdings = { λ x. held-duty_code x.off x.on };
 
     ghost unknowns = { λ x c u. weigh-cells duty_weight (either x.off x.on) c ∙ Prim.grind (arith, nat_tests) };
 
     ghost weights = { λ x. weigh_below duty_weight (either x.off x.on) 1 (λ c h. duty_light c) };
 
     ghost gapless = { λ x. cells-gapless duty_weight (either x.off x.on) duty_light };
+
+    fn top_weight() -> u32 {
+        Self::TOP
+    }
 
     fn known(code: u32) -> bool {
         code < 2
