@@ -1,9 +1,6 @@
-// A reviewer's week: set up, narrowed when a donor closes the drafts, and opened again by grants. Then a fortnight: its
-// rules, and rosters checked against them.
+// A reviewer's week: set up, narrowed when a donor closes the drafts, and opened again by grants.
 #![tactic(auto)]
 
-mod fortnight;
-mod refusals;
 mod week;
 
 use entry::refusal::Refusal;
@@ -48,12 +45,24 @@ fn print_week(rt: &HostRuntime, week: &Week) -> io::Result<()> {
     )
 }
 
+fn reason(refusal: Refusal) -> &'static str {
+    match refusal {
+        Refusal::UnknownCode => "there is no such code",
+        Refusal::OnlyCode => "nothing else is left for that day",
+        Refusal::WeightGap => "the numbers allowed would no longer be consecutive",
+        _ => "the planner declines it",
+    }
+}
+
 // Says in a sentence what came of an edit.
 fn tell(rt: &HostRuntime, name: &str, asked: &str, answer: Result<(), Refusal>) -> io::Result<()> {
-    print!(rt; "  {name}, {asked}: ")?;
     match answer {
-        Ok(()) => println!(rt; "done."),
-        Err(refusal) => refusals::tell(rt, refusal),
+        Ok(()) => println!(rt; "  {name}, {asked}: done."),
+        Err(refusal) => {
+            let number = refusal.number();
+            let why = reason(refusal);
+            println!(rt; "  {name}, {asked}: refused ({number}), {why}.")
+        }
     }
 }
 
@@ -91,7 +100,5 @@ fn main(rt: HostRuntime) -> Result<(), Failure> {
     open_friday(&rt, &mut week.duty)?;
     println!(rt; "\nThe week after these edits:")?;
     print_week(&rt, &week)?;
-    let days = fortnight::days()?;
-    fortnight::play(&rt, &days)?;
     Ok(())
 }
