@@ -33,8 +33,8 @@ module _ (low high : ℕ) where
       code_held (λ k. k) (spans low high) c h (and_from (nat_le low c) (nat_le c high) (le-leb low c p) (le-leb c high q))
 
   -- so a weight between two held ones is the code of that number
-  pub run_gapless : NoGap (spanned low high)
-  run_gapless a b w ha hb la lb =
+  pub no_gap : NoGap (spanned low high)
+  no_gap a b w ha hb la lb =
       let p = in_run a ha in
       let q = in_run b hb in
       let h = run_in w (omega arith) (omega arith) (omega arith) in

@@ -127,7 +127,7 @@ impl Entry for Boxes {
     ghost use Rattle.entry.proofs.CellFacts.{length-cells, held-known, weigh_unknown, weigh_below};
     ghost use Rattle.kinds.specs.Codes.{any_code};
     ghost use Rattle.kinds.specs.Spans.{boxed, spans};
-    ghost use Rattle.kinds.specs.Laws.{run_gapless};
+    ghost use Rattle.kinds.specs.Laws.{no_gap};
 
     const TOP: u32 = 63;
 
@@ -149,7 +149,7 @@ impl Entry for Boxes {
 
     ghost weights = { λ x. weigh_below (λ c. c) (spans x.low x.high) 63 (λ c h. Prim.omega arith) };
 
-    ghost gapless = { λ x. run_gapless x.low x.high };
+    ghost gapless = { λ x. no_gap x.low x.high };
 
     fn top_weight() -> u32 {
         Self::TOP

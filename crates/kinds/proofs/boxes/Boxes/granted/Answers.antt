@@ -4,7 +4,7 @@ use Rattle.entry.proofs.CellFacts.{held-known}
 use Rattle.entry.proofs.Verdicts.{grants_unknown, grants_gap, grants_taken, grants_idle}
 use Rattle.kinds.specs.Codes.{any_code}
 use Rattle.kinds.specs.Spans.{boxed, spans}
-use Rattle.kinds.specs.Laws.{run_gapless, run_in}
+use Rattle.kinds.specs.Laws.{no_gap, run_in}
 use Rattle.kinds.proofs.SpanFacts.{sized, run_out, none_held, low-granted, high-granted, first_granted, outer_granted}
 use Rattle.kinds.proofs.boxes.Boxes.granted.Goals as goal
 use Rattle.kinds.proofs.boxes.Boxes.granted.Goals.{else-low-code-via-then-low-code+else-code-high, else-low-code-via-else-low-code}
@@ -21,7 +21,7 @@ returns-then-high-low c =
     let b = c.args.self in
     let code = c.args.code in
     let below : code < 64 = omega arith in
-    grants_taken boxed any_code code b (sized b.low b.high) _ (lt-ltb code 64 below) (run_gapless _ _)
+    grants_taken boxed any_code code b (sized b.low b.high) _ (lt-ltb code 64 below) (no_gap _ _)
     (first_granted b.low b.high code below (omega arith))
     (λ t. absurd (none_held b.low b.high (omega arith) code t))
 
@@ -31,14 +31,14 @@ returns-then-code-high c =
     let code = c.args.code in
     let below : code < 64 = omega arith in
     grants_idle boxed any_code code b (sized b.low b.high) (lt-ltb code 64 below)
-    (run_in b.low b.high code (omega arith) (omega arith) below) (run_gapless b.low b.high)
+    (run_in b.low b.high code (omega arith) (omega arith) below) (no_gap b.low b.high)
 
 pub returns-then-code-low : goal.returns-then-code-low
 returns-then-code-low c =
     let b = c.args.self in
     let code = c.args.code in
     let below : code < 64 = omega arith in
-    grants_taken boxed any_code code b (sized b.low b.high) _ (lt-ltb code 64 below) (run_gapless _ _)
+    grants_taken boxed any_code code b (sized b.low b.high) _ (lt-ltb code 64 below) (no_gap _ _)
     (low-granted b.low b.high code below (omega arith) (omega arith))
     (λ t. absurd (both_ways _ (run_out b.low b.high code (inl (omega arith))) t))
 
@@ -47,7 +47,7 @@ returns-then-high-code c =
     let b = c.args.self in
     let code = c.args.code in
     let below : code < 64 = omega arith in
-    grants_taken boxed any_code code b (sized b.low b.high) _ (lt-ltb code 64 below) (run_gapless _ _)
+    grants_taken boxed any_code code b (sized b.low b.high) _ (lt-ltb code 64 below) (no_gap _ _)
     (high-granted b.low b.high code below (omega arith) (omega arith))
     (λ t. absurd (both_ways _ (run_out b.low b.high code (inr (omega arith))) t))
 

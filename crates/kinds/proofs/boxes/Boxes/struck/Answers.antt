@@ -3,7 +3,7 @@ use Rattle.std.proofs.lemmas.Bool.{both_ways, lt-ltb, le-ltb}
 use Rattle.entry.proofs.Verdicts.{strikes_unknown, strikes_only, strikes_gap, strikes_taken, strikes_idle}
 use Rattle.kinds.specs.Codes.{any_code}
 use Rattle.kinds.specs.Spans.{boxed}
-use Rattle.kinds.specs.Laws.{run_gapless, in_run, run_in}
+use Rattle.kinds.specs.Laws.{no_gap, in_run, run_in}
 use Rattle.kinds.proofs.SpanFacts.{sized, run_out, low-struck, high-struck, inner_struck}
 use Rattle.kinds.proofs.boxes.Boxes.struck.Goals as goal
 use Rattle.kinds.proofs.boxes.Boxes.struck.Goals.{then-code-low-via-then-code-low, then-code-low-via-else-code-low+then-high-code}
@@ -21,7 +21,7 @@ returns-then-code-low c =
       | then-code-low-via-then-code-low w ↦ inl w.if-code-low.true
       | then-code-low-via-else-code-low+then-high-code w ↦ inr w.if-high-code.true
     ]))
-    (run_gapless b.low b.high)
+    (no_gap b.low b.high)
 
 pub returns-then-low-high : goal.returns-then-low-high
 returns-then-low-high c =
@@ -38,7 +38,7 @@ returns-then-code-low-2 c =
     let below : code < 64 = omega arith in
     strikes_taken boxed any_code code b (sized b.low b.high) _ (lt-ltb code 64 below)
     (λ _. (b.high, run_in b.low b.high b.high (omega arith) (omega arith) (omega arith), λ e. omega arith))
-    (run_gapless _ _)
+    (no_gap _ _)
     (low-struck b.low b.high code below (omega arith) (omega arith))
     (λ f. absurd (both_ways _ f (run_in b.low b.high code (omega arith) (omega arith) below)))
 
@@ -49,7 +49,7 @@ returns-then-code-high c =
     let below : code < 64 = omega arith in
     strikes_taken boxed any_code code b (sized b.low b.high) _ (lt-ltb code 64 below)
     (λ _. (b.low, run_in b.low b.high b.low (omega arith) (omega arith) (omega arith), λ e. omega arith))
-    (run_gapless _ _)
+    (no_gap _ _)
     (high-struck b.low b.high code below (omega arith) (omega arith))
     (λ f. absurd (both_ways _ f (run_in b.low b.high code (omega arith) (omega arith) below)))
 
