@@ -126,6 +126,7 @@ impl BitOr<CodeSet> for CodeSet {
 
     ghost bitor_gives = { Union };
 
+    #[tactic(auto, using(crate::proofs::Operators::word_or))]
     fn bitor(self, other: CodeSet) -> CodeSet {
         CodeSet(self.0 | other.0)
     }
@@ -136,6 +137,7 @@ impl BitAnd<CodeSet> for CodeSet {
 
     ghost bitand_gives = { λ s t r. (c : ℕ) → member r c ≡ (member s c && member t c) };
 
+    #[tactic(auto, using(crate::proofs::Operators::word_and))]
     fn bitand(self, other: CodeSet) -> CodeSet {
         CodeSet(self.0 & other.0)
     }
@@ -146,6 +148,7 @@ impl Sub<CodeSet> for CodeSet {
 
     ghost sub_gives = { Difference };
 
+    #[tactic(auto, using(crate::proofs::Operators::word_less))]
     fn sub(self, other: CodeSet) -> CodeSet {
         CodeSet(self.0 & !other.0)
     }
