@@ -60,16 +60,16 @@ impl<T: Copy, const N: usize> Bounded<T, N> {
         Ok(())
     }
 
-    // Puts an item in the place of the one at `index`. Past the end nothing changes, and the answer is false.
-    pub fn set(&mut self, index: usize, item: T) -> bool
-        ensures answer { result ≡ nat_lt index (length self.old) }
-        ensures after { self.new ≡ (if result then slice_set self.old index item else self.old) }
+    // Puts an item in the place of the one at `index`. Past the end it hands the item back, and nothing changes.
+    pub fn set(&mut self, index: usize, item: T) -> Result<(), T>
+        ensures answer { result ≡ (if nat_lt index (length self.old) then Ok tt else Err item) }
+        ensures after { self.new ≡ (if is_ok result then slice_set self.old index item else self.old) }
     {
         let filled = &mut self.items[..self.count];
         if index >= filled.len() {
-            return false;
+            return Err(item);
         }
         filled[index] = item;
-        true
+        Ok(())
     }
 }

@@ -1,5 +1,6 @@
 -- What a strike or a grant keeps of a day's meaning.
-use Rattle.std.proofs.Common.{◌≡◌, ℕ, ◌≤◌, Bool, true, false, not, ◌&&◌, eqb, length, sym, ap, ◌∙◌, subst, inl, inr, arith, length-set}
+use Rattle.std.specs.Prelude.{◌≡◌, ℕ, ◌≤◌, Bool, true, false, not, ◌&&◌, ◌==◌, length}
+use Rattle.std.proofs.Common.{sym, ◌∙◌, subst, inl, inr, arith, length-set}
 use Rattle.std.proofs.lemmas.List.{set_past}
 use Rattle.std.proofs.lemmas.Bool.{cases_eq, cases_lt}
 use Rattle.std.proofs.lemmas.Bool.Decides.{nat_tests}
@@ -24,8 +25,7 @@ module _ (m : Meaning) (c : ℕ) where
   other_held more h =
       elim (cases_eq h.0 c) [
         | inl e ↦
-            let p : ℕ → Bool = λ k. held m k && not (eqb k c) in
-            let here : held m c ≡ true = ap (held m) (sym e) ∙ h.1 in
+            let p : ℕ → Bool = λ k. held m k && not (k == c) in
             let found = (decides_some p (λ k. p k ≡ true) (λ k. (λ t. t, λ t. t)) 64).0 (grind arith) in
             (found.0, grind (arith, nat_tests), λ same. grind (arith, nat_tests))
         | inr n ↦ (h.0, h.1, n)

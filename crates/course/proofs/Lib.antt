@@ -1,4 +1,3 @@
-pub mod Lists
 pub mod RuleFacts
 pub mod DayFacts
 pub mod Steps

@@ -1,13 +1,14 @@
 -- What one call makes of a ledger.
-use Rattle.std.proofs.Common.{◌≡◌, ℕ, ◌+◌, ◌-◌, ◌<◌, ◌≤◌, Bool, true, false, not, ◌&&◌, ◌⊎◌, List, [], ◌∷◌, ◌++◌, length, get_or, is_ok, Some, None, Ok, Err, Option, Result, sym, refl, ap, ◌∙◌, subst, inl, inr, arith, length-append, length-set}
+use Rattle.std.proofs.Common.{◌≡◌, ℕ, ◌+◌, ◌-◌, ◌<◌, ◌≤◌, Bool, true, false, not, ◌&&◌, ◌⊎◌, List, [], ◌∷◌, ◌++◌, length, is_ok, Some, None, Ok, Err, Option, Result, refl, ap, ◌∙◌, inl, inr, arith, length-append, length-set}
 use Rattle.std.specs.List.{range_with_len, All}
 use Rattle.std.proofs.lemmas.List.FromFn.{length-map-range_with_len}
 use Rattle.std.proofs.lemmas.List.Elements.{All-nil, All-cons, All-set, All-append}
 use Rattle.std.proofs.lemmas.List.{get_or-set_other}
-use Rattle.std.proofs.lemmas.Bool.{not-false}
+use Rattle.std.proofs.lemmas.Bool.{cases_eq, not-false}
 use Rattle.std.proofs.lemmas.Bool.Decides.{nat_tests}
+use Rattle.std.proofs.lemmas.Grind.{get_or-set_at}
 use Rattle.entry.specs.Cells.{weigh}
-use Rattle.entry.specs.Edits.{only, gapless, marked, struck, granted}
+use Rattle.entry.specs.Edits.{gapless, marked}
 use Rattle.entry.specs.Refusals.{Row, Rows, topmost, answered, unless}
 use Rattle.entry.proofs.CellFacts.{weigh-marked}
 use Rattle.ledger.specs.declared.rule.Rule as Declared
@@ -16,7 +17,6 @@ use Rattle.ledger.specs.declared.call.Call.TheVariants.{Rule, Slide, Withdraw, S
 use Rattle.ledger.specs.Ledgers.{Ledger, Answer, done, settled, day_of, window_count, no_such_day, rows, answer, with_rules, with_day, worked, reply, after}
 use Rattle.ledger.specs.Rules.{made, windows, numbered, stands, ended, withdrawn}
 use Rattle.course.specs.Runs.{Edits, given_by, is_settle, Holds, Whole, FitsPlan, Good}
-use Rattle.course.proofs.Lists.{at_set}
 use Rattle.course.proofs.RuleFacts.{windows_fit, given_range, none_given, stands-append, stands-withdrawn}
 use Rattle.course.proofs.DayFacts.{marked_whole, struck_holds, granted_holds}
 
@@ -80,16 +80,6 @@ module _ (l : Ledger) where
       ruled call (Ok a) (old ++ new) (inl real) (omega arith) (given ∙ ap (range_with_len (length old + 1)) more)
       (stands-append old new) (λ fits. All-append (FitsPlan (length l.days) l.kind.top) old new fits fit)
 
-  -- a withdrawal
-  ends : (number : ℕ) → Step l (Withdraw number) (Ok done) (with_rules l (withdrawn l.rules number))
-  ends number =
-      let old = l.rules in
-      let new = withdrawn old number in
-      let end = ended (numbered old number) in
-      let long = length-set old (number - 1) end in
-      ruled (Withdraw number) (Ok done) new (inl refl) (omega arith) (none_given new _ long)
-      (λ k _. stands-withdrawn old number k) (All-set (FitsPlan (length l.days) l.kind.top) old (number - 1) end (λ on. grind arith))
-
   -- a strike or a grant
   edited : (call : Call) (day code : ℕ) (holds : Bool) → (let m = day_of l day in let new = marked m code holds in
       not (is_settle call) ≡ true → ((other : ℕ) → day ≡ other → Edits call other) → no_such_day l day ≡ false
@@ -107,9 +97,10 @@ module _ (l : Ledger) where
         idle = inl real;
         kind = refl;
         days = long;
-        weights = λ other c.
-            at_set (λ x. weigh x c ≡ weigh (day_of l other) c) days i (other - 1) new []
-            (λ e. weigh-marked m code holds c ∙ ap (λ k. weigh (get_or days k []) c) (sym e)) refl;
+        weights = λ other c. elim (cases_eq (other - 1) i) [
+          | inl e ↦ cc (get_or-set_at days i (other - 1) new [] e to, weigh-marked m code holds c)
+          | inr n ↦ ap (λ x. weigh x c) (get_or-set_other days i (other - 1) new [] n)
+        ];
         others = λ other after apart. get_or-set_other days i (other - 1) new [] (λ e. apart (names other (omega arith)));
         grows = omega arith;
         numbers = none_given l.rules _ refl;
@@ -117,11 +108,8 @@ module _ (l : Ledger) where
         good = λ g. record {
           few = omega arith;
           held = All-set Holds days i new (keeps (g.held i [] to)) g.held;
-          gapless =
-              All-set Whole days i new
-              (marked_whole m code holds (not-false _ whole) (g.gapless i [] to).0)
-              g.gapless;
-          within = subst (λ n. All (FitsPlan n l.kind.top) l.rules) (sym long) g.within;
+          gapless = All-set Whole days i new (marked_whole m code holds (not-false _ whole) (g.gapless i [] to).0) g.gapless;
+          within = rw long g.within;
         };
       }
 
@@ -132,23 +120,21 @@ module _ (l : Ledger) where
   works (Slide width least most) clear =
       let count = window_count l width in
       let new = windows count width least most in
-      let given = given_range (length l.rules) count in
-      let long : count ≡ length new = sym (length-map-range_with_len _ 1 count) in
-      added (Slide width least most) _ new refl (given ∙ ap (range_with_len (length l.rules + 1)) long)
+      let long : length new ≡ count = length-map-range_with_len _ 1 count in
+      added (Slide width least most) _ new refl (rw long (given_range (length l.rules) count))
       (windows_fit (length l.days) l.kind.top width least most
       (grind (arith, nat_tests)) (grind (arith, nat_tests)) (grind (arith, nat_tests)))
-  works (Withdraw number) clear = ends number
+  works (Withdraw number) clear =
+      let old = l.rules in
+      let new = withdrawn old number in
+      let end = ended (numbered old number) in
+      let long = length-set old (number - 1) end in
+      ruled (Withdraw number) (Ok done) new (inl refl) (omega arith) (none_given new _ long)
+      (λ k _. stands-withdrawn old number k) (All-set (FitsPlan (length l.days) l.kind.top) old (number - 1) end (λ on. grind arith))
   works (Strike day code) clear =
-      let m = day_of l day in
-      let such : no_such_day l day ≡ false = clear.1.0 in
-      let more : only m code ≡ false = clear.1.1.1.0 in
-      let whole : not (gapless (struck m code)) ≡ false = clear.1.1.1.1.0 in
-      edited (Strike day code) day code false refl (λ _ e. e) such whole (struck_holds m code more)
+      edited (Strike day code) day code false refl (λ _ e. e) clear.1.0 clear.1.1.1.1.0 (struck_holds (day_of l day) code clear.1.1.1.0)
   works (Grant day code) clear =
-      let m = day_of l day in
-      let such : no_such_day l day ≡ false = clear.1.0 in
-      let whole : not (gapless (granted m code)) ≡ false = clear.1.1.1.0 in
-      edited (Grant day code) day code true refl (λ _ e. e) such whole (granted_holds m code)
+      edited (Grant day code) day code true refl (λ _ e. e) clear.1.0 clear.1.1.1.0 (granted_holds (day_of l day) code)
   works Settle clear = same Settle (Ok settled) refl
 
 all_clear : (rows : Rows) → topmost rows ≡ None → Clear rows

@@ -2,7 +2,7 @@
 #![tactic(auto)]
 
 ghost use Rattle.std.specs.Prelude.{◌≡◌};
-ghost use Rattle.ledger.specs.Ledgers.{ledger, after};
+ghost use Rattle.ledger.specs.Ledgers.{ledger, after, after_all};
 ghost use Rattle.course.specs.Runs.{Starts, Good, Run};
 
 use entry::traits::Entry;
@@ -11,17 +11,17 @@ use ledger::call::Call;
 use ledger::days;
 
 // Works the calls one after another. A refused call changes nothing, and the next follows.
+#[tactic(auto, using(crate::proofs::RunFacts::run_to))]
 pub fn replay<E: Entry>(entries: &mut [E], book: &mut Book, calls: &[Call])
-    ensures run { Run (ledger E.TOP E.known E.meaning entries.old book.old) calls.now (ledger E.TOP E.known E.meaning entries.new book.new) }
-    ensures good { Starts (ledger E.TOP E.known E.meaning entries.old book.old) → Good (ledger E.TOP E.known E.meaning entries.new book.new) }
+    ensures run { Run (ledger E.Entry entries.old book.old) calls.now (ledger E.Entry entries.new book.new) }
+    ensures good { Starts (ledger E.Entry entries.old book.old) → Good (ledger E.Entry entries.new book.new) }
 {
     work_all(entries, book, calls);
 }
 
-// The loop of `replay`.
+// Each call begins with what the one before it left.
 fn work_all<E: Entry>(entries: &mut [E], book: &mut Book, calls: &[Call])
-    ensures run { Run (ledger E.TOP E.known E.meaning entries.old book.old) calls.now (ledger E.TOP E.known E.meaning entries.new book.new) }
-    ensures good { Starts (ledger E.TOP E.known E.meaning entries.old book.old) → Good (ledger E.TOP E.known E.meaning entries.new book.new) }
+    ensures { ledger E.Entry entries.new book.new ≡ after_all (ledger E.Entry entries.old book.old) calls.now }
 {
     for call in calls {
         work(entries, book, *call);
@@ -30,7 +30,7 @@ fn work_all<E: Entry>(entries: &mut [E], book: &mut Book, calls: &[Call])
 
 // One call. Its answer is dropped: the ledger after it says all that the next call needs.
 fn work<E: Entry>(entries: &mut [E], book: &mut Book, call: Call)
-    ensures { ledger E.TOP E.known E.meaning entries.new book.new ≡ after (ledger E.TOP E.known E.meaning entries.old book.old) call }
+    ensures { ledger E.Entry entries.new book.new ≡ after (ledger E.Entry entries.old book.old) call }
 {
     match call {
         Call::Rule {

@@ -1,5 +1,5 @@
 -- The table of refusals: the number of each row, what it names, and which row answers a call.
-use Rattle.std.specs.Prelude.{ℕ, Bool, if◌then◌else◌, List, [], ◌∷◌, Some, None, Ok, Err, Option, Result}
+use Rattle.std.specs.Prelude.{ℕ, Bool, if◌then◌else◌, List, [], ◌∷◌, Some, None, Ok, Err, Option, Result, codes}
 use Rattle.entry.specs.declared.refusal.Refusal.{Refusal}
 use Rattle.entry.specs.declared.refusal.Refusal.TheVariants.{TooManyDays, EmptyDay, NoSuchDay, BadWindow, BadCount, BookFull, NoSuchRule, RulePastDays, UnknownCode, OnlyCode, WeightGap, BlockedPlan, NoSuchLink, WrongLength, BadLine, AnswersFull}
 
@@ -30,6 +30,25 @@ row_of NoSuchLink = row 13
 row_of WrongLength = row 14
 row_of BadLine = row 15
 row_of AnswersFull = row 16
+
+-- the row in a few words, byte by byte
+abbrev pub words_of : Refusal → List ℕ
+words_of TooManyDays = codes "a plan has 128 days at the most"
+words_of (EmptyDay day) = codes "a day holds no code"
+words_of NoSuchDay = codes "the plan has no such day"
+words_of BadWindow = codes "the plan has no such days"
+words_of BadCount = codes "no days can add up to that"
+words_of BookFull = codes "the book has no room for that"
+words_of NoSuchRule = codes "no rule in force has that number"
+words_of (RulePastDays rule) = codes "a rule in force ends past the days"
+words_of UnknownCode = codes "there is no such code"
+words_of OnlyCode = codes "nothing else is left for that day"
+words_of WeightGap = codes "the numbers allowed would no longer be consecutive"
+words_of BlockedPlan = codes "the plan is blocked"
+words_of NoSuchLink = codes "the chain has no such link"
+words_of WrongLength = codes "the list is not as long as the plan"
+words_of BadLine = codes "no such line can stand there"
+words_of AnswersFull = codes "the answers do not fit"
 
 -- a call's rows, each with whether it fits, in the order of the table
 abbrev pub Rows : Type 0

@@ -1,5 +1,8 @@
-ghost use Rattle.std.specs.Prelude.{◌≡◌};
-ghost use Rattle.entry.specs.Refusals.{row_of};
+ghost use Rattle.std.specs.Prelude.{◌≡◌, Some};
+ghost use Rattle.entry.specs.Refusals.{row_of, words_of};
+
+use std::error::Error;
+use std::fmt;
 
 // Why a call is declined: the rows of the table of refusals, in its order. A row that names a day or a rule carries
 // its number.
@@ -48,3 +51,31 @@ impl Refusal {
         }
     }
 }
+
+// The row in a few words, for a reader who asked for what was declined.
+impl fmt::Display for Refusal {
+    ghost output = { λ refusal. Some (words_of refusal) };
+
+    fn fmt<W: fmt::Write>(&self, f: &mut fmt::Formatter<W>) -> fmt::Result {
+        f.write_str(match self {
+            Refusal::TooManyDays => "a plan has 128 days at the most",
+            Refusal::EmptyDay(_) => "a day holds no code",
+            Refusal::NoSuchDay => "the plan has no such day",
+            Refusal::BadWindow => "the plan has no such days",
+            Refusal::BadCount => "no days can add up to that",
+            Refusal::BookFull => "the book has no room for that",
+            Refusal::NoSuchRule => "no rule in force has that number",
+            Refusal::RulePastDays(_) => "a rule in force ends past the days",
+            Refusal::UnknownCode => "there is no such code",
+            Refusal::OnlyCode => "nothing else is left for that day",
+            Refusal::WeightGap => "the numbers allowed would no longer be consecutive",
+            Refusal::BlockedPlan => "the plan is blocked",
+            Refusal::NoSuchLink => "the chain has no such link",
+            Refusal::WrongLength => "the list is not as long as the plan",
+            Refusal::BadLine => "no such line can stand there",
+            Refusal::AnswersFull => "the answers do not fit",
+        })
+    }
+}
+
+impl Error for Refusal {}

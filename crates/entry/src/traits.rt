@@ -21,7 +21,10 @@ pub trait Entry: Copy {
     ghost meaning: { Self → Meaning };
 
     fn top_weight() -> u32
-        ensures { result ≡ TOP };
+        ensures { result ≡ TOP }
+    {
+        Self::TOP
+    }
 
     fn known(code: u32) -> bool
         ensures { result ≡ known code };

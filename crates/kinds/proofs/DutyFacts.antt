@@ -1,139 +1,139 @@
 -- What a duty entry holds, and what a strike or a grant makes of it.
-use Rattle.std.specs.Prelude.{◌≡◌, ℕ, ◌≤◌, Bool, true, false, ◌⊎◌, Ok, Err, ◌==◌, refl}
+use mir.Val.{bool_byte}
+use Rattle.std.specs.Prelude.{◌≡◌, ℕ, ◌&&◌, nat_lt, Bool, true, false, if◌then◌else◌, List, Ok, Err, ◌==◌, ◌≢◌, refl}
 use Rattle.std.proofs.Common.{sym, ap, ◌∙◌, inl, inr, arith}
-use Rattle.std.proofs.lemmas.Bool.{cases_eq, cases_Bool, cond-true, eq-eqb, ltb-true, both_ways}
+use Rattle.std.proofs.lemmas.Bool.{cases_Bool, le-ltb}
 use Rattle.std.proofs.lemmas.Bool.Decides.{nat_tests}
+use Rattle.codes.specs.declared.set.CodeSet.{CodeSet}
+use Rattle.codes.specs.Members.{member}
+use Rattle.entry.specs.Refusals.{topmost, answered}
 use Rattle.entry.specs.Cells.{Meaning, weigh, held, cells, NoGap, Sized}
-use Rattle.entry.specs.Edits.{struck, granted, Strikes, Grants}
-use Rattle.entry.specs.Weights.{Lightest, Heaviest}
-use Rattle.entry.proofs.CellFacts.{length-cells, held-cells, held_code, weigh-cells, weigh_below, cells-struck, cells-granted, cells-gapless}
-use Rattle.entry.proofs.Weighing.{attained, weightless}
-use Rattle.entry.proofs.Verdicts.{strikes_only, strikes_taken, grants_taken}
-use Rattle.entry.specs.declared.refusal.Refusal.TheVariants.{OnlyCode}
+use Rattle.entry.specs.Edits.{Strikes, Grants}
+use Rattle.entry.specs.Weights.{lightest, heaviest, Lightest, Heaviest}
+use Rattle.entry.proofs.CellFacts.{held-cells, weigh-cells, cells-struck, cells-granted, cells-gapless}
+use Rattle.entry.proofs.Weighing.{lightest_is, heaviest_is, attained, weightless}
+use Rattle.entry.proofs.Verdicts.{strikes_only, strikes_taken, strikes_unknown, grants_taken, grants_unknown}
+use Rattle.entry.specs.declared.refusal.Refusal.TheVariants.{OnlyCode, UnknownCode}
 use Rattle.kinds.specs.declared.duty.Duty.{Duty}
-use Rattle.kinds.specs.Laws.{duty_light}
-use Rattle.kinds.specs.Duties.{duty_code, duties, duty_weight, either}
+use Rattle.kinds.specs.Laws.{duty_light, held-duty_code}
+use Rattle.kinds.specs.Duties.{duty_code, duties, duty_of, duty_weight, either}
+use Rattle.kinds.specs.Listings.{lists, listing_rows}
+use Rattle.kinds.proofs.LightFacts.{light_sized, level}
+use Rattle.kinds.proofs.ListingFacts.{taken_all, all_taken, listed-known}
 
 module _ (off on : Bool) where
   abbrev m : Meaning
   m = cells duty_weight (either off on)
 
-  pub light : (c : ℕ) → weigh m c ≤ 1
-  light = weigh_below duty_weight (either off on) 1 (λ c h. duty_light c)
-
   pub sized : Sized m
-  sized = (length-cells duty_weight (either off on), λ c. omega (arith, light c))
+  sized = light_sized duty_weight (either off on) duty_light
 
   pub no_gap : NoGap m
   no_gap = cells-gapless duty_weight (either off on) duty_light
 
   -- what is held, and what it weighs
-  pub at_off : held m 0 ≡ off
-  at_off = held-cells duty_weight (either off on) 0
+  cell_of : (c : ℕ) → (held m c ≡ (nat_lt c 64 && either off on c)) × (weigh m c ≡ (if nat_lt c 64 then duty_weight c else 0))
+  cell_of c = (held-cells duty_weight (either off on) c, weigh-cells duty_weight (either off on) c)
 
-  pub at_on : held m 1 ≡ on
-  at_on = held-cells duty_weight (either off on) 1
-
-  weigh-off : weigh m 0 ≡ 0
-  weigh-off = weigh-cells duty_weight (either off on) 0
-
-  weigh-on : weigh m 1 ≡ 1
-  weigh-on = weigh-cells duty_weight (either off on) 1
-
-  pub which : (c : ℕ) → held m c ≡ true → ((c ≡ 0) × (off ≡ true)) ⊎ ((c ≡ 1) × (on ≡ true))
-  which c t =
-      let h : either off on c ≡ true = (held_code duty_weight (either off on) c t).1 in
-      elim (cases_eq c 0) [
-        | inl z ↦ inl (z, sym (cond-true (c == 0) off _ (eq-eqb c 0 z)) ∙ h)
-        | inr nz ↦ elim (cases_eq c 1) [
-          | inl o ↦ inr (o, grind (arith, nat_tests))
-          | inr no_one ↦ absurd (both_ways (either off on c) (grind (arith, nat_tests)) h)
-        ]
+  -- where 1 is held it is the heaviest, and what is held without it weighs 0
+  pub heaviest_flag : (w : ℕ) → w ≡ bool_byte on → Heaviest m w
+  heaviest_flag w e =
+      elim (cases_Bool on) [
+        | inl t ↦ attained 1 ((cell_of 1).0 ∙ t) (grind (arith, cell_of 1)) (λ c _. grind (arith, nat_tests, cell_of c))
+        | inr f ↦ let none : w ≡ 0 = grind arith in rw none (weightless m (λ c t. grind (arith, nat_tests, cell_of c))).1
       ]
 
-  pub off-struck : cells duty_weight (either false on) ≡ struck m 0
-  off-struck = cells-struck duty_weight (either off on) (either false on) 0 (omega arith) (λ k h. grind (arith, nat_tests))
+  pub lightest_off : off ≡ true → Lightest m 0
+  lightest_off t = attained 0 ((cell_of 0).0 ∙ t) (cell_of 0).1 (λ c h. omega arith)
 
-  pub on-struck : cells duty_weight (either off false) ≡ struck m 1
-  on-struck = cells-struck duty_weight (either off on) (either off false) 1 (omega arith) (λ k h. grind (arith, nat_tests))
+  -- where 0 is not held, the heaviest is the lightest
+  pub lightest_on : off ≡ false → (w : ℕ) → Heaviest m w → Lightest m w
+  lightest_on f w = level m 1 w (λ c t. grind (arith, nat_tests, cell_of c))
 
-  pub off-granted : cells duty_weight (either true on) ≡ granted m 0
-  off-granted = cells-granted duty_weight (either off on) (either true on) 0 (omega arith) (λ k h. grind (arith, nat_tests))
-
-  pub on-granted : cells duty_weight (either off true) ≡ granted m 1
-  on-granted = cells-granted duty_weight (either off on) (either off true) 1 (omega arith) (λ k h. grind (arith, nat_tests))
-
-  pub heaviest-on : on ≡ true → Heaviest m 1
-  heaviest-on t = attained 1 (at_on ∙ t) weigh-on (λ c _. light c)
-
-  pub lightest-on : on ≡ true → off ≡ false → Lightest m 1
-  lightest-on t f =
-      attained 1 (at_on ∙ t) weigh-on
-      (λ c h. elim (which c h) [ inl z ↦ absurd (both_ways off f z.1) | inr o ↦ omega (arith, ap (weigh m) o.0, weigh-on) ])
-
-  pub lightest-off : off ≡ true → Lightest m 0
-  lightest-off t = attained 0 (at_off ∙ t) weigh-off (λ c h. omega arith)
-
-  -- where 1 is not held, what is held weighs 0
-  pub off_weightless : on ≡ false → Lightest m 0 × Heaviest m 0
-  off_weightless f =
-      weightless m (λ c t. elim (which c t) [ inl z ↦ ap (weigh m) z.0 ∙ weigh-off | inr o ↦ absurd (both_ways on f o.1) ])
-
--- strikes and grants, code by code
+-- what each method of the kind says, case by case
 module _ (d : Duty) where
+  pub says_heaviest : (w : ℕ) → w ≡ bool_byte d.on → w ≡ heaviest (duties d)
+  says_heaviest w e = heaviest_is _ _ (heaviest_flag d.off d.on w e)
+
+  pub says_off_lightest : d.off ≡ true → 0 ≡ lightest (duties d)
+  says_off_lightest t = lightest_is _ _ (lightest_off d.off d.on t)
+
+  pub says_on_lightest : (w : ℕ) → d.off ≡ false → Heaviest (duties d) w → w ≡ lightest (duties d)
+  says_on_lightest w f h = lightest_is _ _ (lightest_on d.off d.on f w h)
+
+module _ (d : Duty) (c : ℕ) where
+  pub says_off : c ≡ 0 → d.off ≡ held (duties d) c
+  says_off z = grind (arith, nat_tests, cell_of d.off d.on c)
+
+  pub says_on : c ≡ 1 → d.on ≡ held (duties d) c
+  says_on o = grind (arith, nat_tests, cell_of d.off d.on c)
+
+  pub says_neither : c ≢ 0 → c ≢ 1 → false ≡ held (duties d) c
+  says_neither z o = grind (arith, nat_tests, cell_of d.off d.on c)
+
+  pub weighs_one : (w : ℕ) → w ≡ bool_byte (c == 1) → w ≡ weigh (duties d) c
+  weighs_one w e = grind (arith, nat_tests, cell_of d.off d.on c)
+
+-- a strike and a grant, code by code
+module _ (d : Duty) (c : ℕ) where
   fits : Sized (duties d)
   fits = sized d.off d.on
 
   off_is : held (duties d) 0 ≡ d.off
-  off_is = at_off d.off d.on
+  off_is = (cell_of d.off d.on 0).0
 
   on_is : held (duties d) 1 ≡ d.on
-  on_is = at_on d.off d.on
+  on_is = (cell_of d.off d.on 1).0
 
-  pub only_off_struck : d.off ≡ true → d.on ≡ false → Strikes duties duty_code 0 d (Err OnlyCode) d
-  only_off_struck t f =
-      strikes_only duties duty_code 0 d fits refl (off_is ∙ t)
-      (λ k h. elim (which d.off d.on k h) [ inl z ↦ z.0 | inr o ↦ absurd (both_ways d.on f o.1) ])
+  pub strikes_last_off : c ≡ 0 → d.off ≡ true → d.on ≡ false → Strikes duties duty_code c d (Err OnlyCode) d
+  strikes_last_off z t f =
+      rw z (strikes_only duties duty_code 0 d fits refl (off_is ∙ t) (λ k h. grind (arith, nat_tests, cell_of d.off d.on k)))
 
-  pub only_on_struck : d.on ≡ true → d.off ≡ false → Strikes duties duty_code 1 d (Err OnlyCode) d
-  only_on_struck t f =
-      strikes_only duties duty_code 1 d fits refl (on_is ∙ t)
-      (λ k h. elim (which d.off d.on k h) [ inl z ↦ absurd (both_ways d.off f z.1) | inr o ↦ o.0 ])
+  pub strikes_last_on : c ≡ 1 → d.on ≡ true → d.off ≡ false → Strikes duties duty_code c d (Err OnlyCode) d
+  strikes_last_on o t f =
+      rw o (strikes_only duties duty_code 1 d fits refl (on_is ∙ t) (λ k h. grind (arith, nat_tests, cell_of d.off d.on k)))
 
-  pub strikes_off : (d.off ≡ true → d.on ≡ true) → Strikes duties duty_code 0 d (Ok tt) (record { off = false; on = d.on })
-  strikes_off both =
-      strikes_taken duties duty_code 0 d fits _ refl
-      (λ t. (1, on_is ∙ both (sym off_is ∙ t), λ e. omega arith))
-      (no_gap false d.on) (off-struck d.off d.on)
-      (λ f i. record { off = (sym f ∙ off_is) i; on = d.on })
+  pub strikes_off : c ≡ 0 → (d.off ≡ true → d.on ≡ true) → Strikes duties duty_code c d (Ok tt) (record { off = false; on = d.on })
+  strikes_off z both =
+      rw z (strikes_taken duties duty_code 0 d fits _ refl (λ t. (1, on_is ∙ both (sym off_is ∙ t), λ e. omega arith))
+      (no_gap false d.on)
+      (cells-struck duty_weight (either d.off d.on) (either false d.on) 0 (omega arith) (λ k h. grind (arith, nat_tests)))
+      (λ f i. record { off = (sym f ∙ off_is) i; on = d.on }))
 
-  pub strikes_on : (d.on ≡ true → d.off ≡ true) → Strikes duties duty_code 1 d (Ok tt) (record { off = d.off; on = false })
-  strikes_on both =
-      strikes_taken duties duty_code 1 d fits _ refl
-      (λ t. (0, off_is ∙ both (sym on_is ∙ t), λ e. omega arith))
-      (no_gap d.off false) (on-struck d.off d.on)
-      (λ f i. record { off = d.off; on = (sym f ∙ on_is) i })
+  pub strikes_on : c ≡ 1 → (d.on ≡ true → d.off ≡ true) → Strikes duties duty_code c d (Ok tt) (record { off = d.off; on = false })
+  strikes_on o both =
+      rw o (strikes_taken duties duty_code 1 d fits _ refl (λ t. (0, off_is ∙ both (sym on_is ∙ t), λ e. omega arith))
+      (no_gap d.off false)
+      (cells-struck duty_weight (either d.off d.on) (either d.off false) 1 (omega arith) (λ k h. grind (arith, nat_tests)))
+      (λ f i. record { off = d.off; on = (sym f ∙ on_is) i }))
 
-  pub grants_off : Grants duties duty_code 0 d (Ok tt) (record { off = true; on = d.on })
-  grants_off =
-      grants_taken duties duty_code 0 d fits _ refl (no_gap true d.on) (off-granted d.off d.on)
-      (λ t i. record { off = (sym t ∙ off_is) i; on = d.on })
+  pub strikes_neither : c ≢ 0 → c ≢ 1 → Strikes duties duty_code c d (Err UnknownCode) d
+  strikes_neither z o = strikes_unknown duties duty_code c d fits (le-ltb c 2 (omega arith))
 
-  pub grants_on : Grants duties duty_code 1 d (Ok tt) (record { off = d.off; on = true })
-  grants_on =
-      grants_taken duties duty_code 1 d fits _ refl (no_gap d.off true) (on-granted d.off d.on)
-      (λ t i. record { off = d.off; on = (sym t ∙ on_is) i })
+  pub grants_off : c ≡ 0 → Grants duties duty_code c d (Ok tt) (record { off = true; on = d.on })
+  grants_off z =
+      rw z (grants_taken duties duty_code 0 d fits _ refl (no_gap true d.on)
+      (cells-granted duty_weight (either d.off d.on) (either true d.on) 0 (omega arith) (λ k h. grind (arith, nat_tests)))
+      (λ t i. record { off = (sym t ∙ off_is) i; on = d.on }))
 
--- what holds known codes alone is told by codes 0 and 1
-pub either_is : (holds : ℕ → Bool) (off on : Bool) → off ≡ holds 0 → on ≡ holds 1 → ((c : ℕ) → holds c ≡ true → duty_code c ≡ true) → (c : ℕ) → either off on c ≡ holds c
-either_is holds off on e o known c =
-    elim (cases_eq c 0) [
-      | inl z ↦ rw z e
-      | inr nz ↦ elim (cases_eq c 1) [
-        | inl one ↦ rw one o
-        | inr nor ↦ elim (cases_Bool (holds c)) [
-          | inl t ↦ absurd (omega (arith, ltb-true c 2 (known c t)))
-          | inr f ↦ grind (arith, nat_tests)
-        ]
-      ]
-    ]
+  pub grants_on : c ≡ 1 → Grants duties duty_code c d (Ok tt) (record { off = d.off; on = true })
+  grants_on o =
+      rw o (grants_taken duties duty_code 1 d fits _ refl (no_gap d.off true)
+      (cells-granted duty_weight (either d.off d.on) (either d.off true) 1 (omega arith) (λ k h. grind (arith, nat_tests)))
+      (λ t i. record { off = d.off; on = (sym t ∙ on_is) i }))
+
+  pub grants_neither : c ≢ 0 → c ≢ 1 → Grants duties duty_code c d (Err UnknownCode) d
+  grants_neither z o =
+      grants_unknown duties duty_code c d fits (le-ltb c 2 (omega arith)) (held-duty_code d.off d.on c)
+
+-- the entry of the set of a listing's codes
+pub built : (ns : List ℕ) (s : CodeSet) (off on : Bool) → off ≡ member s 0 → on ≡ member s 1
+    → Ok (member s) ≡ answered (topmost (listing_rows duty_code ns)) (lists ns)
+    → Ok (duties (record { off = off; on = on })) ≡ duty_of ns
+built ns s off on e o listed =
+    let taken = taken_all duty_code ns (lists ns) (member s) listed in
+    let known = listed-known duty_code ns in
+    let zero : off ≡ lists ns 0 = e ∙ ap (λ f. f 0) taken.1 in
+    let one : on ≡ lists ns 1 = o ∙ ap (λ f. f 1) taken.1 in
+    let same : (k : ℕ) → either off on k ≡ lists ns k = λ k. grind (arith, nat_tests, known k taken.0) in
+    ap (λ f. Ok (cells duty_weight f)) (λ j k. same k j) ∙ sym (all_taken duty_code ns (cells duty_weight (lists ns)) taken.0)

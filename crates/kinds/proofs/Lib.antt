@@ -1,5 +1,5 @@
 pub mod CollectionFacts
 pub mod DutyFacts
+pub mod LightFacts
 pub mod ListingFacts
 pub mod SpanFacts
-pub mod Telling

@@ -1,95 +1,165 @@
 -- What a run of codes holds, and what a strike or a grant makes of it.
-use Rattle.std.specs.Prelude.{◌≡◌, ℕ, ◌+◌, ◌-◌, ◌<◌, ◌≤◌, true, false, ◌⊎◌, length, ◌≢◌, nat_lt, refl}
-use Rattle.std.proofs.Common.{sym, ap, ◌∙◌, inl, inr, arith}
-use Rattle.std.proofs.lemmas.Bool.{cond-true, lt-ltb}
+use Rattle.std.specs.Prelude.{◌≡◌, ℕ, ◌+◌, ◌<◌, ◌≤◌, Bool, true, false, if◌then◌else◌, not, ◌&&◌, ◌||◌, length, Ok, Err, ◌==◌, ◌≢◌, nat_le, nat_lt, refl}
+use Rattle.std.proofs.Common.{sym, ◌∙◌, subst, inl, inr, arith}
+use Rattle.std.proofs.lemmas.Bool.{cases_lt, cases_eq, ltb-true}
 use Rattle.std.proofs.lemmas.Bool.Decides.{nat_tests}
 use Rattle.entry.specs.Cells.{Meaning, weigh, held, NoGap, Sized}
-use Rattle.entry.specs.Edits.{struck, granted}
-use Rattle.entry.specs.Weights.{Lightest, Heaviest}
-use Rattle.entry.proofs.CellFacts.{length-cells, code_not, weigh_below, weigh-cells, weigh-marked, cells-struck, cells-granted, struck_stays, struck_was, granted_stays, granted_was}
-use Rattle.entry.proofs.Weighing.{attained, weightless}
-use Rattle.kinds.specs.Laws.{in_run, run_in}
-use Rattle.kinds.specs.Spans.{spans, spanned}
+use Rattle.entry.specs.Edits.{marked, struck, granted, Strikes, Grants}
+use Rattle.entry.specs.Weights.{lightest, heaviest, Lightest, Heaviest}
+use Rattle.entry.specs.declared.refusal.Refusal.TheVariants.{OnlyCode, WeightGap}
+use Rattle.entry.proofs.CellFacts.{length-cells, weigh_below, held-cells, weigh-cells, weigh-marked, cells-struck, cells-granted, struck_stays, struck_was, granted_stays, granted_was}
+use Rattle.entry.proofs.Verdicts.{strikes_only, strikes_gap, strikes_taken, grants_gap, grants_taken}
+use Rattle.entry.proofs.Weighing.{lightest_is, heaviest_is, attained, weightless}
+use Rattle.kinds.specs.declared.boxes.Boxes.{Boxes}
+use Rattle.kinds.specs.Codes.{any_code}
+use Rattle.kinds.specs.Laws.{in_run, run_in, no_gap}
+use Rattle.kinds.specs.Spans.{spans, spanned, boxed}
 
 module _ (low high : ℕ) where
-  pub sized : Sized (spanned low high)
+  abbrev m : Meaning
+  m = spanned low high
+
+  pub sized : Sized m
   sized = (length-cells (λ c. c) (spans low high), weigh_below (λ c. c) (spans low high) 63 (λ c h. omega arith))
 
-  pub run_out : (c : ℕ) → (c < low) ⊎ (high < c) → held (spanned low high) c ≡ false
-  run_out c side =
-      code_not (λ k. k) (spans low high) c (elim side [ inl s ↦ grind (arith, nat_tests) | inr s ↦ grind (arith, nat_tests) ])
-
-  pub lightest-low : low ≤ high → high ≤ 63 → Lightest (spanned low high) low
-  lightest-low p q =
-      let h = run_in low high low (omega arith) p (omega arith) in
-      attained low h (in_run low high low h).3 (λ c t. omega (arith, (in_run low high c t).0, (in_run low high c t).3))
-
-  pub heaviest-high : low ≤ high → high ≤ 63 → Heaviest (spanned low high) high
-  heaviest-high p q =
-      let h = run_in low high high p (omega arith) (omega arith) in
-      attained high h (in_run low high high h).3 (λ c t. omega (arith, (in_run low high c t).1, (in_run low high c t).3))
-
-  pub none_held : high < low → (c : ℕ) → held (spanned low high) c ≢ true
-  none_held p c t = omega (arith, (in_run low high c t).0, (in_run low high c t).1)
-
-  pub empty_weightless : high < low → Lightest (spanned low high) 0 × Heaviest (spanned low high) 0
-  empty_weightless p = weightless (spanned low high) (λ c t. absurd (none_held p c t))
-
   module _ (c : ℕ) (below : c < 64) where
-    -- an end can go
-    pub low-struck : c ≡ low → low < high → spanned (low + 1) high ≡ struck (spanned low high) c
-    low-struck e p = cells-struck (λ k. k) (spans low high) (spans (low + 1) high) c below (λ k h. grind (arith, nat_tests))
-
-    pub high-struck : c ≡ high → low < high → spanned low (high - 1) ≡ struck (spanned low high) c
-    high-struck e p = cells-struck (λ k. k) (spans low high) (spans low (high - 1)) c below (λ k h. grind (arith, nat_tests))
-
-    abbrev m : Meaning
-    m = spanned low high
-
     inside : c < length m
     inside = omega (arith, sized.0)
 
-    -- a code between the ends cannot
-    pub inner_struck : low < c → c < high → high ≤ 63 → NoGap (struck m c) → ⊥
+    -- a number between two codes that an edited run without gaps holds is such a code
+    filled : (flag : Bool) (a b w : ℕ) → NoGap (marked m c flag) → held (marked m c flag) a ≡ true
+        → held (marked m c flag) b ≡ true → a < w → w < b → b < 64 → held (marked m c flag) w ≡ true
+    filled flag a b w whole ha hb la lb top =
+        let new = marked m c flag in
+        let weighs : (k : ℕ) → weigh new k ≡ (if nat_lt k 64 then k else 0) =
+        λ k. weigh-marked m c flag k ∙ weigh-cells (λ k. k) (spans low high) k in
+        let found = whole a b w ha hb (grind (arith, nat_tests, weighs a)) (grind (arith, nat_tests, weighs b)) in
+        subst (λ k. held new k ≡ true) (grind (arith, nat_tests, weighs found.0, found.2)) found.1
+
+    -- a code between the ends cannot go
+    inner_struck : low < c → c < high → high ≤ 63 → NoGap (struck m c) → ⊥
     inner_struck p q top whole =
-        let a = run_in low high low (omega arith) (omega arith) (omega arith) in
-        let b = run_in low high high (omega arith) (omega arith) (omega arith) in
-        let found = whole low high c
-        (struck_stays m c inside low a (λ e. omega arith))
-        (struck_stays m c inside high b (λ e. omega arith))
-        (omega (arith, weigh-marked m c false low, (in_run low high low a).3))
-        (omega (arith, weigh-marked m c false high, (in_run low high high b).3)) in
-        let was = struck_was m c inside found.0 found.1 in
-        was.1 (omega (arith, found.2, weigh-marked m c false found.0, (in_run low high found.0 was.0).3))
+        let first = struck_stays m c inside low (run_in low high low (omega arith) (omega arith) (omega arith)) (λ e. omega arith) in
+        let last = struck_stays m c inside high (run_in low high high (omega arith) (omega arith) (omega arith)) (λ e. omega arith) in
+        (struck_was m c inside c (filled false low high c whole first last p q (omega arith))).1 refl
 
-    -- a code beside an end can come
-    pub low-granted : c + 1 ≡ low → low ≤ high → spanned c high ≡ granted m c
-    low-granted e p = cells-granted (λ k. k) (spans low high) (spans c high) c below (λ k h. grind (arith, nat_tests))
-
-    pub high-granted : high + 1 ≡ c → low ≤ high → spanned low c ≡ granted m c
-    high-granted e p = cells-granted (λ k. k) (spans low high) (spans low c) c below (λ k h. grind (arith, nat_tests))
-
-    pub first_granted : high < low → spanned c c ≡ granted m c
-    first_granted p = cells-granted (λ k. k) (spans low high) (spans c c) c below (λ k h. grind (arith, nat_tests))
-
-    -- one further off cannot
-    pub outer_granted : low ≤ high → high ≤ 63 → (c + 1 < low) ⊎ (high + 1 < c) → NoGap (granted m c) → ⊥
-    outer_granted p top side whole =
-        let a = run_in low high low (omega arith) p (omega arith) in
-        let b = run_in low high high p (omega arith) (omega arith) in
-        let weighs : weigh m c ≡ c = weigh-cells (λ k. k) (spans low high) c ∙ cond-true (nat_lt c 64) c 0 (lt-ltb c 64 below) in
+    -- nor can one come that is not beside an end
+    outer_granted : low ≤ high → high ≤ 63 → held m c ≡ false → c + 1 ≢ low → high + 1 ≢ c → NoGap (granted m c) → ⊥
+    outer_granted p top out before after whole =
         let here = granted_stays m c inside c (inr refl) in
-        let gone : (w : ℕ) → (w < low) ⊎ (high < w) → (w ≢ c) → ((k : ℕ) × (held (granted m c) k ≡ true) × (weigh (granted m c) k ≡ w)) → ⊥ =
-        λ w out other found. elim (granted_was m c inside found.0 found.1) [
-          | inl h ↦ elim out [
-            | inl s ↦ omega (arith, found.2, weigh-marked m c true found.0, (in_run low high found.0 h).0, (in_run low high found.0 h).3)
-            | inr s ↦ omega (arith, found.2, weigh-marked m c true found.0, (in_run low high found.0 h).1, (in_run low high found.0 h).3)
+        let first = granted_stays m c inside low (inl (run_in low high low (omega arith) p (omega arith))) in
+        let last = granted_stays m c inside high (inl (run_in low high high p (omega arith) (omega arith))) in
+        elim (cases_lt c low) [
+          | inl s ↦ elim (granted_was m c inside (c + 1) (filled true c low (c + 1) whole here first (omega arith) (omega arith) (omega arith))) [
+            | inl h ↦ let at = in_run low high (c + 1) h in omega arith
+            | inr e ↦ omega arith
           ]
-          | inr e ↦ other (sym found.2 ∙ weigh-marked m c true found.0 ∙ ap (weigh m) e ∙ weighs)
-        ] in
-        elim side [
-          | inl s ↦ gone (c + 1) (inl s) (λ e. omega arith) (whole c low (c + 1) here (granted_stays m c inside low (inl a))
-              (omega (arith, weigh-marked m c true c, weighs)) (omega (arith, weigh-marked m c true low, (in_run low high low a).3)))
-          | inr s ↦ gone (high + 1) (inr (omega arith)) (λ e. omega arith) (whole high c (high + 1) (granted_stays m c inside high (inl b)) here
-              (omega (arith, weigh-marked m c true high, (in_run low high high b).3)) (omega (arith, weigh-marked m c true c, weighs)))
+          | inr s ↦
+              let past : high < c = grind (arith, nat_tests, held-cells (λ k. k) (spans low high) c) in
+              elim (granted_was m c inside (high + 1) (filled true high c (high + 1) whole last here (omega arith) (omega arith) below)) [
+                | inl h ↦ let at = in_run low high (high + 1) h in omega arith
+                | inr e ↦ omega arith
+              ]
         ]
+
+-- a strike and a grant of a known code
+module _ (b : Boxes) (c : ℕ) (known : any_code c ≡ true) where
+  fits : Sized (boxed b)
+  fits = sized b.low b.high
+
+  below : c < 64
+  below = ltb-true c 64 known
+
+  module _ (there : held (boxed b) c ≡ true) where
+    -- the only code of a run stays
+    pub strikes_last : b.low ≡ b.high → Strikes boxed any_code c b (Err OnlyCode) b
+    strikes_last e =
+        let here = in_run b.low b.high c there in
+        strikes_only boxed any_code c b fits known there (λ k t. let at = in_run b.low b.high k t in omega arith)
+
+    module _ (longer : b.low ≢ b.high) where
+      -- the other end
+      other : (k : ℕ) × (held (boxed b) k ≡ true) × (k ≢ c)
+      other =
+          let here = in_run b.low b.high c there in
+          let top = b.codes in
+          elim (cases_eq c b.low) [
+            | inl e ↦ (b.high, run_in b.low b.high b.high (omega arith) (omega arith) (omega arith), λ s. omega arith)
+            | inr n ↦ (b.low, run_in b.low b.high b.low (omega arith) (omega arith) (omega arith), λ s. omega arith)
+          ]
+
+      -- of a longer run an end goes, and the run y is left
+      pub strikes_end : (y : Boxes) → ((k : ℕ) → k < 64 → spans y.low y.high k ≡ (spans b.low b.high k && not (k == c)))
+          → Strikes boxed any_code c b (Ok tt) y
+      strikes_end y shorter =
+          strikes_taken boxed any_code c b fits y known (λ _. other) (no_gap y.low y.high)
+          (cells-struck (λ k. k) (spans b.low b.high) (spans y.low y.high) c below shorter) (λ f. cc)
+
+      -- a code between the ends stays
+      pub strikes_inner : c ≢ b.low → c ≢ b.high → Strikes boxed any_code c b (Err WeightGap) b
+      strikes_inner p q =
+          let here = in_run b.low b.high c there in
+          strikes_gap boxed any_code c b fits known there other (inner_struck b.low b.high c below (omega arith) (omega arith) b.codes.1)
+
+  module _ (gone : held (boxed b) c ≡ false) where
+    -- a code comes with which those held are the run y
+    pub grants_end : (y : Boxes) → ((k : ℕ) → k < 64 → spans y.low y.high k ≡ (spans b.low b.high k || k == c))
+        → Grants boxed any_code c b (Ok tt) y
+    grants_end y longer =
+        grants_taken boxed any_code c b fits y known (no_gap y.low y.high)
+        (cells-granted (λ k. k) (spans b.low b.high) (spans y.low y.high) c below longer) (λ t. cc)
+
+    -- one that is beside neither end does not
+    pub grants_outer : b.low ≤ b.high → c + 1 ≢ b.low → b.high + 1 ≢ c → Grants boxed any_code c b (Err WeightGap) b
+    grants_outer p before after =
+        grants_gap boxed any_code c b fits known gone (outer_granted b.low b.high c below p b.codes.1 gone before after)
+
+-- what the methods say of a code
+module _ (b : Boxes) (c : ℕ) where
+  pub says_held : (high : ℕ) → high ≡ b.high → b.low ≤ c → nat_le c high ≡ held (boxed b) c
+  says_held high h from = sym (held-cells (λ k. k) (spans b.low b.high) c ∙ grind (arith, nat_tests, b.codes.1))
+
+  pub says_below : (low : ℕ) → low ≡ b.low → c < low → nat_le low c ≡ held (boxed b) c
+  says_below low l before = sym (held-cells (λ k. k) (spans b.low b.high) c ∙ grind (arith, nat_tests))
+
+  pub says_weight : (known : Bool) → known ≡ any_code c → known ≡ true → c ≡ weigh (boxed b) c
+  says_weight known k t = sym (weigh-cells (λ k. k) (spans b.low b.high) c ∙ grind (arith, nat_tests))
+
+  pub says_nothing : (known : Bool) → known ≡ any_code c → known ≡ false → 0 ≡ weigh (boxed b) c
+  says_nothing known k f = sym (weigh-cells (λ k. k) (spans b.low b.high) c ∙ grind (arith, nat_tests))
+
+-- and of the weights that are held
+module _ (b : Boxes) where
+  pub lightest_low : (w : ℕ) → w ≡ b.low → b.low ≤ b.high → Lightest (boxed b) w
+  lightest_low w e p =
+      let top = b.codes in
+      let h = run_in b.low b.high b.low (omega arith) p (omega arith) in
+      attained b.low h ((in_run b.low b.high b.low h).3 ∙ sym e) (λ c t. let at = in_run b.low b.high c t in omega arith)
+
+  pub heaviest_high : (w : ℕ) → w ≡ b.high → b.low ≤ b.high → Heaviest (boxed b) w
+  heaviest_high w e p =
+      let top = b.codes in
+      let h = run_in b.low b.high b.high p (omega arith) (omega arith) in
+      attained b.high h ((in_run b.low b.high b.high h).3 ∙ sym e) (λ c t. let at = in_run b.low b.high c t in omega arith)
+
+  -- a run without codes holds no weight
+  empty_weightless : b.high < b.low → Lightest (boxed b) 0 × Heaviest (boxed b) 0
+  empty_weightless p = weightless (boxed b) (λ c t. let at = in_run b.low b.high c t in absurd (omega arith))
+
+  pub lightest_none : b.high < b.low → Lightest (boxed b) 0
+  lightest_none p = (empty_weightless p).0
+
+  pub heaviest_none : b.high < b.low → Heaviest (boxed b) 0
+  heaviest_none p = (empty_weightless p).1
+
+  pub says_lightest : (w : ℕ) → w ≡ b.low → b.low ≤ b.high → w ≡ lightest (boxed b)
+  says_lightest w e p = lightest_is _ _ (lightest_low w e p)
+
+  pub says_heaviest : (w : ℕ) → w ≡ b.high → b.low ≤ b.high → w ≡ heaviest (boxed b)
+  says_heaviest w e p = heaviest_is _ _ (heaviest_high w e p)
+
+  pub says_no_lightest : b.high < b.low → 0 ≡ lightest (boxed b)
+  says_no_lightest p = lightest_is _ _ (lightest_none p)
+
+  pub says_no_heaviest : b.high < b.low → 0 ≡ heaviest (boxed b)
+  says_no_heaviest p = heaviest_is _ _ (heaviest_none p)

@@ -1,7 +1,6 @@
 -- Why the kinds keep the laws of an entry. An `impl` can cite only what stands in this folder, so these proofs do.
-use Rattle.std.specs.Prelude.{◌≡◌, ℕ, ◌<◌, ◌≤◌, Bool, true, false, if◌then◌else◌, nat_le}
+use Rattle.std.specs.Prelude.{◌≡◌, ℕ, ◌<◌, ◌≤◌, Bool, true, if◌then◌else◌}
 use Rattle.std.proofs.Common.{arith}
-use Rattle.std.proofs.lemmas.Bool.{and_parts, leb-true, le-leb, and_from}
 use Rattle.std.proofs.lemmas.Bool.Decides.{nat_tests}
 use Rattle.entry.specs.Cells.{weigh, held, cells, NoGap}
 use Rattle.entry.proofs.CellFacts.{held_code, code_held}
@@ -17,20 +16,16 @@ held-duty_code off on c t = let h = (held_code duty_weight (either off on) c t).
 
 -- nor does one of a collection
 pub counted_light : (b : Bool) → (if b then 1 else 0) ≤ 1
-counted_light true = omega arith
-counted_light false = omega arith
+counted_light b = grind (arith, nat_tests)
 
 module _ (low high : ℕ) where
   -- a held code lies in the run and weighs its number
   pub in_run : (c : ℕ) → held (spanned low high) c ≡ true → (low ≤ c) × (c ≤ high) × (c < 64) × (weigh (spanned low high) c ≡ c)
   in_run c t =
-      let code = held_code (λ k. k) (spans low high) c t in
-      let ends = and_parts (nat_le low c) (nat_le c high) code.1 in
-      (leb-true low c ends.0, leb-true c high ends.1, code.0, code.2)
+      let code = held_code (λ k. k) (spans low high) c t in (grind (arith, nat_tests), grind (arith, nat_tests), code.0, code.2)
 
   pub run_in : (c : ℕ) → low ≤ c → c ≤ high → c < 64 → held (spanned low high) c ≡ true
-  run_in c p q h =
-      code_held (λ k. k) (spans low high) c h (and_from (nat_le low c) (nat_le c high) (le-leb low c p) (le-leb c high q))
+  run_in c p q h = code_held (λ k. k) (spans low high) c h (grind (arith, nat_tests))
 
   -- so a weight between two held ones is the code of that number
   pub no_gap : NoGap (spanned low high)

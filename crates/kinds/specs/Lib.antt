@@ -1,6 +1,5 @@
 pub mod Codes
 pub mod Listings
-pub mod Told
 pub mod Duties
 pub mod Collections
 pub mod Spans

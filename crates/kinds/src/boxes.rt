@@ -1,7 +1,5 @@
 ghost use Rattle.std.specs.Prelude.{◌≤◌};
 
-use crate::cell::{Cell, Weights};
-use crate::edits::store;
 use entry::refusal::Refusal;
 use entry::traits::Entry;
 
@@ -19,7 +17,6 @@ impl Boxes {
     ghost use Rattle.entry.specs.Refusals.{told};
     ghost use Rattle.kinds.specs.Codes.{any_code};
     ghost use Rattle.kinds.specs.Spans.{boxed, boxes_of};
-    ghost use Rattle.kinds.specs.Told.{CellOf, WeightsOf, Struck, Granted};
 
     // The codes from low to high; refused where either is no code.
     pub fn new(low: u32, high: u32) -> Result<Boxes, Refusal>
@@ -32,93 +29,6 @@ impl Boxes {
             low: low as u8,
             high: high as u8,
         })
-    }
-
-    // The weight of a code, and whether it is held.
-    fn cell(self, code: u32) -> Cell
-        ensures { CellOf (boxed self) code result }
-    {
-        if code > 63 {
-            return Cell {
-                weight: 0,
-                held: false,
-            };
-        }
-        Cell {
-            weight: code,
-            held: u32::from(self.low) <= code && code <= u32::from(self.high),
-        }
-    }
-
-    // The lightest and the heaviest weight that is held.
-    fn weights(self) -> Weights
-        ensures { WeightsOf (boxed self) result }
-    {
-        if self.low <= self.high {
-            Weights {
-                lightest: u32::from(self.low),
-                heaviest: u32::from(self.high),
-            }
-        } else {
-            Weights {
-                lightest: 0,
-                heaviest: 0,
-            }
-        }
-    }
-
-    // The entry without the code, or why that is refused.
-    fn struck(self, code: u32) -> Result<Boxes, Refusal>
-        ensures { Struck boxed any_code code self result }
-    {
-        if code > 63 {
-            return Err(Refusal::UnknownCode);
-        }
-        let Boxes { low, high } = self;
-        let code = code as u8;
-        if code < low || high < code {
-            return Ok(self);
-        }
-        if low == high {
-            return Err(Refusal::OnlyCode);
-        }
-        if code == low {
-            return Ok(Boxes { low: low + 1, high });
-        }
-        if code == high {
-            return Ok(Boxes {
-                low,
-                high: high - 1,
-            });
-        }
-        Err(Refusal::WeightGap)
-    }
-
-    // The entry with the code, or why that is refused.
-    fn granted(self, code: u32) -> Result<Boxes, Refusal>
-        ensures { Granted boxed any_code code self result }
-    {
-        if code > 63 {
-            return Err(Refusal::UnknownCode);
-        }
-        let Boxes { low, high } = self;
-        let code = code as u8;
-        if high < low {
-            return Ok(Boxes {
-                low: code,
-                high: code,
-            });
-        }
-        if low <= code && code <= high {
-            return Ok(self);
-        }
-        if code + 1 == low {
-            return Ok(Boxes { low: code, high });
-        }
-        if high + 1 == code {
-            return Ok(Boxes { low, high: code });
-        }
-        Err(Refusal::WeightGap)
     }
 }
 
@@ -151,37 +61,79 @@ impl Entry for Boxes {
 
     ghost gapless = { λ x. no_gap x.low x.high };
 
-    fn top_weight() -> u32 {
-        Self::TOP
-    }
-
     fn known(code: u32) -> bool {
         code < 64
     }
 
+    #[tactic(auto, using(crate::proofs::SpanFacts::says_held, crate::proofs::SpanFacts::says_below))]
     fn holds(&self, code: u32) -> bool {
-        self.cell(code).held
+        u32::from(self.low) <= code && code <= u32::from(self.high)
     }
 
+    #[tactic(auto, using(crate::proofs::SpanFacts::says_weight, crate::proofs::SpanFacts::says_nothing))]
     fn weight(&self, code: u32) -> u32 {
-        self.cell(code).weight
+        if Self::known(code) { code } else { 0 }
     }
 
+    #[tactic(auto, using(crate::proofs::SpanFacts::lightest_low, crate::proofs::SpanFacts::lightest_none, crate::proofs::SpanFacts::says_lightest, crate::proofs::SpanFacts::says_no_lightest))]
     fn lightest(&self) -> u32 {
-        self.weights().lightest
+        if self.low <= self.high {
+            u32::from(self.low)
+        } else {
+            0
+        }
     }
 
+    #[tactic(auto, using(crate::proofs::SpanFacts::heaviest_high, crate::proofs::SpanFacts::heaviest_none, crate::proofs::SpanFacts::says_heaviest, crate::proofs::SpanFacts::says_no_heaviest))]
     fn heaviest(&self) -> u32 {
-        self.weights().heaviest
+        if self.low <= self.high {
+            u32::from(self.high)
+        } else {
+            0
+        }
     }
 
     fn strike(&mut self, code: u32) -> Result<(), Refusal> {
-        let rest = self.struck(code);
-        store(self, rest)
+        if !Self::known(code) {
+            return Err(Refusal::UnknownCode);
+        }
+        if !self.holds(code) {
+            return Ok(());
+        }
+        let code = code as u8;
+        if self.low == self.high {
+            return Err(Refusal::OnlyCode);
+        }
+        if code == self.low {
+            self.low += 1;
+        } else if code == self.high {
+            self.high -= 1;
+        } else {
+            return Err(Refusal::WeightGap);
+        }
+        Ok(())
     }
 
     fn grant(&mut self, code: u32) -> Result<(), Refusal> {
-        let wider = self.granted(code);
-        store(self, wider)
+        if !Self::known(code) {
+            return Err(Refusal::UnknownCode);
+        }
+        if self.holds(code) {
+            return Ok(());
+        }
+        let code = code as u8;
+        if self.high < self.low {
+            *self = Boxes {
+                low: code,
+                high: code,
+            };
+        } else if code + 1 == self.low {
+            self.low = code;
+        } else if self.high + 1 == code {
+            self.high = code;
+        } else {
+            return Err(Refusal::WeightGap);
+        }
+        Ok(())
     }
 }

@@ -7,10 +7,7 @@ ghost use Rattle.kinds.specs.Listings.{Listed};
 ghost use Rattle.kinds.specs.Codes.{any_code};
 ghost use Rattle.kinds.specs.Collections.{collected, collection_of, weight_in};
 ghost use Rattle.kinds.specs.Laws.{counted_light};
-ghost use Rattle.kinds.specs.Told.{CellOf, WeightsOf, Struck, Granted};
 
-use crate::cell::{Cell, Weights};
-use crate::edits::store;
 use crate::listing::listed;
 use codes::set::CodeSet;
 use entry::refusal::Refusal;
@@ -28,81 +25,9 @@ impl Collection {
     pub fn new(codes: &[u32], counts: &[u32]) -> Result<Collection, Refusal>
         ensures { told collected result ≡ collection_of codes.now counts.now }
     {
-        Collection::from_listings(listed::<Collection>(codes), listed::<Collection>(counts))
-    }
-
-    // The entry of two sets of listed codes; a listing that was refused is refused here.
-    fn from_listings(
-        codes: Result<CodeSet, Refusal>,
-        counts: Result<CodeSet, Refusal>,
-    ) -> Result<Collection, Refusal>
-        ensures { (ns ks : List ℕ) → Listed any_code ns codes → Listed any_code ks counts → told collected result ≡ collection_of ns ks }
-    {
-        let held = codes?;
-        let counted = counts?;
+        let held = listed::<Collection>(codes)?;
+        let counted = listed::<Collection>(counts)?;
         Ok(Collection { held, counted })
-    }
-
-    // The weight of a code, and whether it is held.
-    fn cell(self, code: u32) -> Cell
-        ensures { CellOf (collected self) code result }
-    {
-        Cell {
-            weight: if self.counted.contains(code) { 1 } else { 0 },
-            held: self.held.contains(code),
-        }
-    }
-
-    // The lightest and the heaviest weight that is held.
-    fn weights(self) -> Weights
-        ensures { WeightsOf (collected self) result }
-    {
-        let counting = self.held.intersection(self.counted);
-        let free = self.held.difference(self.counted);
-        match (free.is_empty(), counting.is_empty()) {
-            (_, true) => Weights {
-                lightest: 0,
-                heaviest: 0,
-            },
-            (false, false) => Weights {
-                lightest: 0,
-                heaviest: 1,
-            },
-            (true, false) => Weights {
-                lightest: 1,
-                heaviest: 1,
-            },
-        }
-    }
-
-    // The entry without the code, or why that is refused.
-    fn struck(self, code: u32) -> Result<Collection, Refusal>
-        ensures { Struck collected any_code code self result }
-    {
-        if code > 63 {
-            return Err(Refusal::UnknownCode);
-        }
-        let rest = self.held.without(code);
-        if rest.is_empty() && self.held.contains(code) {
-            return Err(Refusal::OnlyCode);
-        }
-        Ok(Collection {
-            held: rest,
-            counted: self.counted,
-        })
-    }
-
-    // The entry with the code, or why that is refused.
-    fn granted(self, code: u32) -> Result<Collection, Refusal>
-        ensures { Granted collected any_code code self result }
-    {
-        if code > 63 {
-            return Err(Refusal::UnknownCode);
-        }
-        Ok(Collection {
-            held: self.held.with(code),
-            counted: self.counted,
-        })
     }
 }
 
@@ -129,37 +54,47 @@ impl Entry for Collection {
 
     ghost gapless = { λ x. cells-gapless (weight_in (member x.counted)) (member x.held) (λ c. counted_light (member x.counted c)) };
 
-    fn top_weight() -> u32 {
-        Self::TOP
-    }
-
     fn known(code: u32) -> bool {
         code < 64
     }
 
+    #[tactic(auto, using(crate::proofs::CollectionFacts::says_held))]
     fn holds(&self, code: u32) -> bool {
-        self.cell(code).held
+        self.held.contains(code)
     }
 
+    #[tactic(auto, using(crate::proofs::CollectionFacts::says_counted))]
     fn weight(&self, code: u32) -> u32 {
-        self.cell(code).weight
+        u32::from(self.counted.contains(code))
     }
 
     fn lightest(&self) -> u32 {
-        self.weights().lightest
+        let free = self.held - self.counted;
+        if free.is_empty() { self.heaviest() } else { 0 }
     }
 
     fn heaviest(&self) -> u32 {
-        self.weights().heaviest
+        let counting = self.held & self.counted;
+        u32::from(!counting.is_empty())
     }
 
     fn strike(&mut self, code: u32) -> Result<(), Refusal> {
-        let rest = self.struck(code);
-        store(self, rest)
+        if !Self::known(code) {
+            return Err(Refusal::UnknownCode);
+        }
+        let rest = self.held.without(code);
+        if rest.is_empty() && self.held.contains(code) {
+            return Err(Refusal::OnlyCode);
+        }
+        self.held = rest;
+        Ok(())
     }
 
     fn grant(&mut self, code: u32) -> Result<(), Refusal> {
-        let wider = self.granted(code);
-        store(self, wider)
+        if !Self::known(code) {
+            return Err(Refusal::UnknownCode);
+        }
+        self.held = self.held.with(code);
+        Ok(())
     }
 }

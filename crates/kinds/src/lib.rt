@@ -2,10 +2,8 @@
 #![tactic(auto)]
 
 pub mod boxes;
-mod cell;
 pub mod collection;
 pub mod duty;
-mod edits;
 mod listing;
 #[cfg(test)]
 mod tests;

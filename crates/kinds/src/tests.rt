@@ -3,17 +3,11 @@ use crate::collection::Collection;
 use crate::duty::Duty;
 use entry::refusal::Refusal;
 use entry::traits::Entry;
-use std::process::Abort;
 use std::test::Fail;
 
 // Holds exactly the codes from low to high.
 fn holds_run<E: Entry>(entry: &E, low: u32, high: u32) -> bool {
-    for code in 0..70u32 {
-        if entry.holds(code) != (low <= code && code <= high) {
-            return false;
-        }
-    }
-    true
+    (0..70).all(|code| entry.holds(code) == (low <= code && code <= high))
 }
 
 // Numbers that no kind knows: every method answers, and nothing changes.

@@ -1,94 +1,149 @@
 -- What a strike or a grant of one entry makes of the plan that the entry stands in.
-use Rattle.std.proofs.Common.{◌≡◌, ℕ, ◌-◌, ◌<◌, ◌≤◌, Bool, true, false, List, [], ◌∷◌, length, get_or, set, Some, None, Ok, Err, Option, Result, sym, refl, ap, ◌∙◌, subst, arith, length-set}
+use Rattle.std.specs.Prelude.{◌≡◌, ℕ, ◌-◌, ◌<◌, ◌≤◌, Bool, true, false, ◌||◌, ◌==◌, nat_lt, List, [], ◌∷◌, length, slice_index_or, slice_set, Some, None, Ok, Err, Option, Result, refl}
+use Rattle.std.proofs.Common.{ap, ◌∙◌, inl, inr, arith, length-set, MutBor}
+use Rattle.std.specs.Fn.{Once, FnOnceReturnsAtMut}
+use Rattle.std.proofs.lemmas.Bool.{cases_lt, cases_Bool}
 use Rattle.std.proofs.lemmas.List.{length-map, get_or-map, get_or-set_other, map-set, set-get_or}
 use Rattle.std.proofs.lemmas.Bool.Decides.{nat_tests}
 use Rattle.entry.specs.declared.refusal.Refusal.{Refusal}
+use Rattle.entry.specs.declared.refusal.Refusal.TheVariants.{TooManyDays, NoSuchDay}
+use Rattle.entry.specs.declared.traits.Entry.{Ghosts}
 use Rattle.entry.specs.Cells.{Meaning, held}
 use Rattle.entry.specs.Edits.{struck, granted, strike_rows, grant_rows, Edited, Strikes, Grants}
-use Rattle.entry.specs.Refusals.{Row, Rows, row, topmost, told, outcome, answered, unless}
+use Rattle.entry.specs.Refusals.{Row, Rows, row, row_of, topmost, told, outcome, answered, unless}
 use Rattle.ledger.specs.Rules.{Book}
 use Rattle.ledger.specs.declared.call.Call.{Call}
 use Rattle.ledger.specs.declared.call.Call.TheVariants.{Strike, Grant}
-use Rattle.ledger.specs.Edits.{Already, EditsDay}
-use Rattle.ledger.specs.Ledgers.{Ledger, Answer, ledger, day_of, too_many_days, no_such_day, with_day, done, rows, answer, worked}
+use Rattle.ledger.specs.Edits.{Already, EditsDay, OnDay}
+use Rattle.ledger.specs.Ledgers.{Ledger, ledger, day_of, too_many_days, no_such_day, with_day, done, rows, answer, worked}
 
-abbrev then_done : Result (Unit {0}) Row → Result Answer Row
-then_done (Ok u) = Ok done
-then_done (Err r) = Err r
+-- what a call shows that answers done or refuses
+shows : (r : Result (Unit {0}) Refusal) (o : Option Row) → outcome r ≡ answered o tt → told (λ _. done) r ≡ answered o done
+shows (Ok u) None same = refl
+shows (Ok u) (Some row) same = cc
+shows (Err e) None same = cc
+shows (Err e) (Some row) same = cc
 
-told_done : (r : Result (Unit {0}) Refusal) → told (λ _. done) r ≡ then_done (outcome r)
-told_done (Ok u) = refl
-told_done (Err e) = refl
+-- A call on a day that answers done: which rows judge the day's meaning, what the call makes of it, and when it asks for
+-- what is so already.
+record DayCall (call : Call) (day : ℕ) : Type 1 where
+  judge : (ℕ → Bool) → Meaning → Rows
+  edit : Meaning → Meaning
+  So : (ℕ → Bool) → Meaning → Type 0
+  judged : (l : Ledger) → rows l call ≡ (too_many_days l, row 1) ∷ (no_such_day l day, row 3) ∷ judge l.kind.known (day_of l day)
+  edited : (l : Ledger) → worked l call ≡ with_day l day (edit (day_of l day))
+  answers : (l : Ledger) → answer l call ≡ done
+  already : (l : Ledger) → Already l call → So l.kind.known (day_of l day)
 
-answered_done : (o : Option Row) → then_done (answered o tt) ≡ answered o done
-answered_done None = refl
-answered_done (Some r) = refl
-
-module _ {X : Type 0} (top : ℕ) (known : ℕ → Bool) (f : X → Meaning) (xs : List X) (day : ℕ) (x : X)
-    (few : length xs ≤ 128) (from : 0 < day) (to : day ≤ length xs) (copied : x ≡ get_or xs (day - 1) x) where
+module _ {X : Type 0} (kind : Ghosts X) (xs : List X) (day : ℕ) (call : Call) (d : DayCall call day) where
   abbrev plan : Book → Ledger
-  plan = ledger top known f xs
+  plan = ledger kind xs
 
-  back : set xs (day - 1) x ≡ xs
-  back = ap (set xs (day - 1)) copied ∙ set-get_or xs (day - 1) x
+  abbrev f : X → Meaning
+  f = kind.meaning
 
-  day_is : (book : Book) → f x ≡ day_of (plan book) day
-  day_is book = ap f copied ∙ sym (get_or-map f xs (day - 1) x [] (omega arith))
+  -- a row refuses
+  refused : (e : Refusal) → ((book : Book) → topmost (rows (plan book) call) ≡ Some (row_of e)) → EditsDay kind call day xs (Err e) xs
+  refused e top = record {
+    answer = λ book. cc (top book);
+    after = λ book. cc (top book);
+    others = (refl, λ k d other. refl);
+    kept = λ e. refl;
+    idle = λ book a. refl;
+  }
 
-  stored : (book : Book) (y : X) → ledger top known f (set xs (day - 1) y) book ≡ with_day (plan book) day (f y)
-  stored book y =
-      ap (λ days. record { kind = record { top = top; known = known }; days = days; rules = book }) (map-set f xs (day - 1) y)
+  -- x is the entry of a day that is there
+  module _ (x : X) (few : length xs ≤ 128) (from : 0 < day) (to : day ≤ length xs) (copied : x ≡ slice_index_or xs (day - 1) x) where
+    -- written back, it changes nothing
+    back : slice_set xs (day - 1) x ≡ xs
+    back = cc (set-get_or xs (day - 1) x)
 
-  changed : (book : Book) (o : Option Row) (new : Meaning) (y : X) → f y ≡ unless o new (f x)
-      → ledger top known f (set xs (day - 1) y) book ≡ unless o (with_day (plan book) day new) (plan book)
-  changed book None new y e = stored book y ∙ ap (with_day (plan book) day) e
-  changed book (Some r) new y e =
-      stored book y ∙ ap (with_day (plan book) day) e ∙ sym (stored book x) ∙ ap (λ l. ledger top known f l book) back
+    -- its meaning is the day's
+    day_is : (book : Book) → f x ≡ day_of (plan book) day
+    day_is book = cc (get_or-map f xs (day - 1) x [] (omega arith))
 
-  -- neither the number of days nor the day refuses the call
-  clear : (book : Book) (rest : Rows)
-      → topmost ((too_many_days (plan book), row 1) ∷ (no_such_day (plan book) day, row 3) ∷ rest) ≡ topmost rest
-  clear book rest =
+    -- neither the number of days nor the day refuses the call
+    judged_by : (book : Book) → topmost (rows (plan book) call) ≡ topmost (d.judge kind.known (f x))
+    judged_by book =
+        let long = length-map xs f in
+        ap topmost (d.judged (plan book)) ∙ rw (day_is book) (grind (arith, nat_tests))
+
+    -- the ledger with y in its place, where y means what the rows leave
+    changed : (book : Book) (o : Option Row) (new : Meaning) (y : X) → f y ≡ unless o new (f x)
+        → ledger kind (slice_set xs (day - 1) y) book ≡ unless o (with_day (plan book) day new) (plan book)
+    changed book None new y e = cc (map-set f xs (day - 1) y)
+    changed book (Some row) new y e = cc (map-set f xs (day - 1) y, map-set f xs (day - 1) x, back)
+
+    -- an edit of the entry is the call on the plan
+    edits_day : (c : ℕ) (r : Result (Unit {0}) Refusal) (y : X)
+        → Edited f c (d.judge kind.known (f x)) (d.edit (f x)) (d.So kind.known (f x)) x r y → EditsDay kind call day xs r (slice_set xs (day - 1) y)
+    edits_day c r y e =
+        let top = topmost (d.judge kind.known (f x)) in
+        record {
+          answer = λ book. cc (shows r top e.answer, judged_by book, d.answers (plan book));
+          after = λ book. cc (changed book top (d.edit (f x)) y e.after, judged_by book, d.edited (plan book), day_is book);
+          others = (length-set xs (day - 1) y, λ k d other. get_or-set_other xs (day - 1) k y d other);
+          kept = λ refused. cc (e.refused refused, back);
+          idle = λ book a. cc ((e.idle (rw (day_is book) (d.already (plan book) a))).1, back);
+        }
+
+  -- an edit of the entry of a day that may not be there
+  on_day : (Edit : X → Result (Unit {0}) Refusal → X → Type 0) (c : ℕ) (r : Result (Unit {0}) Refusal) (ys : List X)
+      → ((x : X) (r : Result (Unit {0}) Refusal) (y : X) → Edit x r y
+      → Edited f c (d.judge kind.known (f x)) (d.edit (f x)) (d.So kind.known (f x)) x r y)
+      → OnDay Edit day xs r ys → EditsDay kind call day xs r ys
+  on_day Edit c r ys means h =
       let long = length-map xs f in
-      let many : too_many_days (plan book) ≡ false = grind (arith, nat_tests) in
-      let such : no_such_day (plan book) day ≡ false = grind (arith, nat_tests) in
-      rw (many, such) refl
+      elim (cases_lt 128 (length xs)) [
+        | inl many ↦
+            let e = h.many many in
+            rw (e.0, e.1) (refused TooManyDays (λ book. ap topmost (d.judged (plan book)) ∙ grind (arith, nat_tests)))
+        | inr few ↦ elim (cases_Bool (day == 0 || nat_lt (length xs) day)) [
+          | inl out ↦
+              let e = h.none few out in
+              rw (e.0, e.1) (refused NoSuchDay (λ book. ap topmost (d.judged (plan book)) ∙ grind (arith, nat_tests)))
+          | inr such ↦
+              let from : 0 < day = grind (arith, nat_tests) in
+              let to : day ≤ length xs = grind (arith, nat_tests) in
+              let one = h.one few from to in
+              rw one.4 (edits_day one.0 few from to one.2 c r one.1 (means one.0 r one.1 one.3))
+        ]
+      ]
 
-  -- a call that judges the day's meaning by these rows, and makes this of it
-  edits_day : (call : Call) (judge : Meaning → Rows) (edit : Meaning → Meaning)
-      → ((book : Book) → topmost (rows (plan book) call) ≡ topmost (judge (day_of (plan book) day)))
-      → ((book : Book) → worked (plan book) call ≡ with_day (plan book) day (edit (day_of (plan book) day)))
-      → ((book : Book) → answer (plan book) call ≡ done)
-      → (c : ℕ) (so : Meaning → Type 0) → ((book : Book) → Already (plan book) call → so (day_of (plan book) day))
-      → (r : Result (Unit {0}) Refusal) (y : X) → Edited f c (judge (f x)) (edit (f x)) (so (f x)) x r y
-      → EditsDay top known f call day xs r (set xs (day - 1) y)
-  edits_day call judge edit judged edited told-so c so already r y e =
-      record {
-        answer = λ book.
-            told_done r ∙ ap then_done e.answer ∙ answered_done (topmost (judge (f x)))
-            ∙ ap (λ m. answered (topmost (judge m)) done) (day_is book)
-            ∙ ap (λ o. answered o done) (sym (judged book))
-            ∙ ap (answered (topmost (rows (plan book) call))) (sym (told-so book));
-        after = λ book.
-            changed book (topmost (judge (f x))) (edit (f x)) y e.after
-            ∙ ap (λ m. unless (topmost (judge m)) (with_day (plan book) day (edit m)) (plan book)) (day_is book)
-            ∙ ap (λ o. unless o (with_day (plan book) day (edit (day_of (plan book) day))) (plan book)) (sym (judged book))
-            ∙ ap (λ l. unless (topmost (rows (plan book) call)) l (plan book)) (sym (edited book));
-        others = (length-set xs (day - 1) y, λ k d other. get_or-set_other xs (day - 1) k y d other);
-        kept = λ refused. ap (set xs (day - 1)) (e.refused refused) ∙ back;
-        idle = λ book a. ap (set xs (day - 1)) (e.idle (subst so (sym (day_is book)) (already book a))).1 ∙ back;
-      }
+-- what a closure owes of each call at a `&mut`, as a relation of the values there before and after
+called_at : {X F : Type 0} (G : Once F (MutBor X × Unit {0}) (Result (Unit {0}) Refusal × (MutBor X × Unit {0}))) (f : F)
+    (P : X → Result (Unit {0}) Refusal → X → Type 0)
+    → ((shown left : MutBor X) (r : Result (Unit {0}) Refusal) → G.post f (shown, tt) (r, (left, tt)) → P shown.now r left.now)
+    → (x : X) (r : Result (Unit {0}) Refusal) (y : X) → FnOnceReturnsAtMut G f x r y → P x r y
+called_at G f P each x r y call =
+    rw (← call.shows, ← call.leaves) (each call.shown call.left r call.met)
 
-  pub strikes_day : (c : ℕ) (r : Result (Unit {0}) Refusal) (y : X) → Strikes f known c x r y
-      → EditsDay top known f (Strike day c) day xs r (set xs (day - 1) y)
-  strikes_day c r y e =
-      edits_day (Strike day c) (λ m. strike_rows known m c) (λ m. struck m c)
-      (λ book. clear book (strike_rows known (day_of (plan book) day) c)) (λ book. refl) (λ book. refl)
-      c (λ m. (known c ≡ true) × (held m c ≡ false)) (λ book a. a) r y e.0
+module _ {X F : Type 0} (kind : Ghosts X) (xs : List X) (day : ℕ) (G : Once F (MutBor X × Unit {0}) (Result (Unit {0}) Refusal × (MutBor X × Unit {0}))) (f : F)
+    (c : ℕ) (r : Result (Unit {0}) Refusal) (ys : List X) where
+  pub strikes_on_day : ((shown left : MutBor X) (r : Result (Unit {0}) Refusal) → G.post f (shown, tt) (r, (left, tt)) → Strikes kind.meaning kind.known c shown.now r left.now)
+      → OnDay (FnOnceReturnsAtMut G f) day xs r ys → EditsDay kind (Strike day c) day xs r ys
+  strikes_on_day each =
+      on_day kind xs day (Strike day c) (record {
+        judge = λ known m. strike_rows known m c;
+        edit = λ m. struck m c;
+        So = λ known m. (known c ≡ true) × (held m c ≡ false);
+        judged = λ l. refl;
+        edited = λ l. refl;
+        answers = λ l. refl;
+        already = λ l a. a;
+      })
+      (FnOnceReturnsAtMut G f) c r ys (λ x s y e. (called_at G f (Strikes kind.meaning kind.known c) each x s y e).0)
 
-  pub grants_day : (c : ℕ) (r : Result (Unit {0}) Refusal) (y : X) → Grants f known c x r y
-      → EditsDay top known f (Grant day c) day xs r (set xs (day - 1) y)
-  grants_day c r y e =
-      edits_day (Grant day c) (λ m. grant_rows known m c) (λ m. granted m c)
-      (λ book. clear book (grant_rows known (day_of (plan book) day) c)) (λ book. refl) (λ book. refl)
-      c (λ m. held m c ≡ true) (λ book a. a) r y e
+  pub grants_on_day : ((shown left : MutBor X) (r : Result (Unit {0}) Refusal) → G.post f (shown, tt) (r, (left, tt)) → Grants kind.meaning kind.known c shown.now r left.now)
+      → OnDay (FnOnceReturnsAtMut G f) day xs r ys → EditsDay kind (Grant day c) day xs r ys
+  grants_on_day each =
+      on_day kind xs day (Grant day c) (record {
+        judge = λ known m. grant_rows known m c;
+        edit = λ m. granted m c;
+        So = λ known m. held m c ≡ true;
+        judged = λ l. refl;
+        edited = λ l. refl;
+        answers = λ l. refl;
+        already = λ l a. a;
+      })
+      (FnOnceReturnsAtMut G f) c r ys (called_at G f (Grants kind.meaning kind.known c) each)

@@ -1,6 +1,7 @@
 -- The ledger of a plan, and what each call answers and makes of it.
 use Rattle.std.specs.Prelude.{ℕ, ◌+◌, ◌-◌, ◌*◌, Bool, true, false, if◌then◌else◌, not, ◌||◌, List, [], ◌∷◌, ◌++◌, map, length, Some, None, Option, Result, ◌==◌, nat_le, nat_lt, slice_index_or, slice_set}
 use Rattle.std.specs.List.{prefix_len}
+use Rattle.entry.specs.declared.traits.Entry.{Ghosts}
 use Rattle.entry.specs.Cells.{Meaning, held}
 use Rattle.entry.specs.Edits.{some, struck, granted, strike_rows, grant_rows}
 use Rattle.entry.specs.Refusals.{Row, Rows, row, naming, topmost, answered, unless}
@@ -21,9 +22,9 @@ pub record Ledger : Type 0 where
   pub rules : Book
 
 -- the ledger that entries and a book mean
-abbrev pub ledger : {X : Type 0} → ℕ → (ℕ → Bool) → (X → Meaning) → List X → Book → Ledger
-ledger top known meaning entries book =
-    record { kind = record { top = top; known = known }; days = map meaning entries; rules = book }
+abbrev pub ledger : {X : Type 0} → Ghosts X → List X → Book → Ledger
+ledger kind entries book =
+    record { kind = record { top = kind.TOP; known = kind.known }; days = map kind.meaning entries; rules = book }
 
 -- days count from 1
 abbrev pub day_of : Ledger → ℕ → Meaning

@@ -1,4 +1,5 @@
-ghost use Rattle.std.specs.Prelude.{◌≡◌, ◌+◌, ◌*◌, ◌<◌, ◌≤◌, false, ◌||◌, List, [], ◌∷◌, ◌++◌, length, is_ok, nat_lt};
+ghost use Rattle.std.specs.Prelude.{◌≡◌, ◌+◌, ◌-◌, ◌*◌, ◌<◌, ◌≤◌, false, List, [], ◌∷◌, ◌++◌, length, is_ok, nat_lt, if◌then◌else◌};
+ghost use Rattle.entry.specs.declared.refusal.Refusal.TheVariants.{BookFull};
 
 use crate::days::day_count;
 use crate::rule::Rule;
@@ -71,26 +72,24 @@ impl Book {
         least: u32,
         most: u32,
     ) -> Result<u32, Refusal>
-        ensures { EditsBook E.TOP E.known E.meaning (calls.Rule first last least most) numbered entries.now self.old result self.new }
+        ensures { EditsBook E.Entry (calls.Rule first last least most) numbered entries.now self.old result self.new }
     {
         let days = day_count(entries)?;
         if first == 0 || last < first || days < last {
             return Err(Refusal::BadWindow);
         }
-        if bad_count::<E>(last - first + 1, least, most) {
-            return Err(Refusal::BadCount);
-        }
-        let count = self.rules.len() as u32;
-        if count + 1 > ROOM {
-            return Err(Refusal::BookFull);
-        }
-        self.add::<E>(Rule {
+        let rule = Rule {
             first,
             last,
             least,
             most,
             in_force: true,
-        });
+        };
+        if rule.has_bad_count::<E>() {
+            return Err(Refusal::BadCount);
+        }
+        let count = self.count_before(1)?;
+        self.add::<E>(rule);
         Ok(count + 1)
     }
 
@@ -102,21 +101,25 @@ impl Book {
         least: u32,
         most: u32,
     ) -> Result<Option<(u32, u32)>, Refusal>
-        ensures { EditsBook E.TOP E.known E.meaning (calls.Slide width least most) ranging entries.now self.old result self.new }
+        ensures { EditsBook E.Entry (calls.Slide width least most) ranging entries.now self.old result self.new }
     {
         let days = day_count(entries)?;
         if width == 0 {
             return Err(Refusal::BadWindow);
         }
-        if bad_count::<E>(width, least, most) {
+        let window = Rule {
+            first: 1,
+            last: width,
+            least,
+            most,
+            in_force: true,
+        };
+        if window.has_bad_count::<E>() {
             return Err(Refusal::BadCount);
         }
-        let count = self.rules.len() as u32;
         let more = (days + 1).saturating_sub(width);
-        if count + more > ROOM {
-            return Err(Refusal::BookFull);
-        }
-        self.add_windows::<E>(more, width, least, most);
+        let count = self.count_before(more)?;
+        self.add_windows::<E>(more, window);
         if more == 0 {
             return Ok(None);
         }
@@ -129,19 +132,29 @@ impl Book {
         ensures after { (kind : Kind) (days : List Meaning) → record { kind = kind; days = days; rules = self.new } ≡ after (record { kind = kind; days = days; rules = self.old }) (calls.Withdraw number) }
         ensures kept { is_ok result ≡ false → self.new ≡ self.old }
     {
-        if !self.stands(number) {
-            return Err(Refusal::NoSuchRule);
-        }
-        self.end(number);
+        let at = self.place_of(number).ok_or(Refusal::NoSuchRule)?;
+        self.end(at);
         Ok(())
     }
 
-    // Whether a rule in force has the number.
-    fn stands(&self, number: u32) -> bool
-        ensures { result ≡ stands self.now number }
+    // Where the rule in force with the number stands.
+    fn place_of(&self, number: u32) -> Option<usize>
+        ensures { result ≡ (if stands self.now number then Some (number - 1) else None) }
     {
-        let rules = self.rules();
-        number > 0 && number as usize <= rules.len() && rules[number as usize - 1].in_force
+        let at = (number as usize).checked_sub(1)?;
+        let rule = self.rules().get(at)?;
+        rule.in_force.then_some(at)
+    }
+
+    // How many rules there are, where the book has room for so many more.
+    fn count_before(&self, more: u32) -> Result<u32, Refusal>
+        ensures { result ≡ (if nat_lt 512 (length self.now + more) then Err BookFull else Ok (length self.now)) }
+    {
+        let count = self.rules.len() as u32;
+        if more > ROOM - count {
+            return Err(Refusal::BookFull);
+        }
+        Ok(count)
     }
 
     // The callers have seen to it that there is room.
@@ -152,36 +165,30 @@ impl Book {
         let _ = self.rules.push(rule);
     }
 
-    fn add_windows<E: Entry>(&mut self, count: u32, width: u32, least: u32, most: u32)
-        requires { (length self.old + count ≤ 512) × (1 ≤ width) × ((count ≡ 0 → ⊥) → count + width ≤ 129) × (least ≤ most) × (most ≤ E.TOP * width) }
-        ensures { self.new ≡ self.old ++ windows count width least most }
+    // One window after another, each a day later than the one before. The callers have seen to it that there is room.
+    fn add_windows<E: Entry>(&mut self, count: u32, window: Rule)
+        requires { (length self.old + count ≤ 512) × (1 ≤ window.last) × ((count ≡ 0 → ⊥) → count + window.last ≤ 129) × (window.least ≤ window.most) × (window.most ≤ E.TOP * window.last) }
+        ensures { self.new ≡ self.old ++ windows count window.last window.least window.most }
     {
-        for first in 1..count + 1 {
+        for later in 0..count {
             self.add::<E>(Rule {
-                first,
-                last: first + width - 1,
-                least,
-                most,
+                first: later + 1,
+                last: later + window.last,
                 in_force: true,
+                ..window
             });
         }
     }
 
     // Nothing but the flag changes, and the rule stays at its place.
-    fn end(&mut self, number: u32)
-        requires { (0 < number) × (number ≤ length self.old) }
-        ensures { self.new ≡ withdrawn self.old number }
+    fn end(&mut self, at: usize)
+        requires { at < length self.old }
+        ensures { self.new ≡ withdrawn self.old (at + 1) }
     {
-        let at = number as usize - 1;
-        let mut rule = self.rules()[at];
-        rule.in_force = false;
+        let rule = Rule {
+            in_force: false,
+            ..self.rules()[at]
+        };
         let _ = self.rules.set(at, rule);
     }
-}
-
-// Whether least is above most, or most above what so many days can weigh. The product may need 64 bits.
-fn bad_count<E: Entry>(days: u32, least: u32, most: u32) -> bool
-    ensures { result ≡ (nat_lt most least || nat_lt (E.TOP * days) most) }
-{
-    most < least || u64::from(E::TOP) * u64::from(days) < u64::from(most)
 }

@@ -1,5 +1,5 @@
 // A call on a plan with its arguments.
-#[derive(Clone, Copy)]
+#[derive(Clone, Copy, PartialEq, Eq, Debug)]
 pub enum Call {
     Rule {
         first: u32,

@@ -1,52 +1,41 @@
-ghost use Rattle.std.specs.Prelude.{◌≡◌, ◌<◌, ◌≤◌, map, length};
+ghost use Rattle.std.specs.Prelude.{◌≡◌, map, length};
+ghost use Rattle.std.specs.Fn.{FnOnceReturnsAtMut};
 ghost use Rattle.ledger.specs.declared.call.Call.TheVariants as calls;
-ghost use Rattle.ledger.specs.Edits.{CountsDays, EditsDay};
+ghost use Rattle.ledger.specs.Edits.{CountsDays, EditsDay, OnDay};
 
 use entry::refusal::Refusal;
 use entry::traits::Entry;
 
 // Takes a code out of the entry of one day.
 pub fn strike<E: Entry>(entries: &mut [E], day: u32, code: u32) -> Result<(), Refusal>
-    ensures { EditsDay E.TOP E.known E.meaning (calls.Strike day code) day entries.old result entries.new }
+    ensures { EditsDay E.Entry (calls.Strike day code) day entries.old result entries.new }
 {
-    let days = day_count(entries)?;
-    if day == 0 || days < day {
-        return Err(Refusal::NoSuchDay);
-    }
-    strike_day(entries, day, code)
+    edit_day(entries, day, |entry| entry.strike(code))
 }
 
 // Puts a code into the entry of one day.
 pub fn grant<E: Entry>(entries: &mut [E], day: u32, code: u32) -> Result<(), Refusal>
-    ensures { EditsDay E.TOP E.known E.meaning (calls.Grant day code) day entries.old result entries.new }
+    ensures { EditsDay E.Entry (calls.Grant day code) day entries.old result entries.new }
+{
+    edit_day(entries, day, |entry| entry.grant(code))
+}
+
+// The entry of the day is copied out, edited, and stored back whole.
+fn edit_day<E: Entry, F: FnOnce(&mut E) -> Result<(), Refusal>>(
+    entries: &mut [E],
+    day: u32,
+    edit: F,
+) -> Result<(), Refusal>
+    requires { F.IsAlwaysCallable edit }
+    ensures { OnDay (FnOnceReturnsAtMut F.FnOnce edit) day entries.old result entries.new }
 {
     let days = day_count(entries)?;
     if day == 0 || days < day {
         return Err(Refusal::NoSuchDay);
     }
-    grant_day(entries, day, code)
-}
-
-// The entry is copied out, struck, and stored back whole.
-fn strike_day<E: Entry>(entries: &mut [E], day: u32, code: u32) -> Result<(), Refusal>
-    requires { (length entries.old ≤ 128) × (0 < day) × (day ≤ length entries.old) }
-    ensures { EditsDay E.TOP E.known E.meaning (calls.Strike day code) day entries.old result entries.new }
-{
     let at = day as usize - 1;
     let mut entry = entries[at];
-    let answer = entry.strike(code);
-    entries[at] = entry;
-    answer
-}
-
-// The entry is copied out, granted the code, and stored back whole.
-fn grant_day<E: Entry>(entries: &mut [E], day: u32, code: u32) -> Result<(), Refusal>
-    requires { (length entries.old ≤ 128) × (0 < day) × (day ≤ length entries.old) }
-    ensures { EditsDay E.TOP E.known E.meaning (calls.Grant day code) day entries.old result entries.new }
-{
-    let at = day as usize - 1;
-    let mut entry = entries[at];
-    let answer = entry.grant(code);
+    let answer = edit(&mut entry);
     entries[at] = entry;
     answer
 }

@@ -1,10 +1,25 @@
+ghost use Rattle.std.specs.Prelude.{◌≡◌, ◌+◌, ◌-◌, ◌*◌, ◌≤◌, ◌||◌, nat_lt};
+
+use entry::traits::Entry;
+
 // On the days from `first` to `last` the weights add up to `least` at the least and to `most` at the most. A withdrawn
 // rule is no longer in force.
-#[derive(Clone, Copy)]
+#[derive(Clone, Copy, PartialEq, Eq, Debug)]
 pub struct Rule {
     pub first: u32,
     pub last: u32,
     pub least: u32,
     pub most: u32,
     pub in_force: bool,
+}
+
+impl Rule {
+    // Whether least is above most, or most above what the days can weigh. The product may need 64 bits.
+    pub(crate) fn has_bad_count<E: Entry>(self) -> bool
+        requires { self.first ≤ self.last }
+        ensures { result ≡ (nat_lt self.most self.least || nat_lt (E.TOP * (self.last - self.first + 1)) self.most) }
+    {
+        let days = u64::from(self.last - self.first) + 1;
+        self.most < self.least || u64::from(E::TOP) * days < u64::from(self.most)
+    }
 }

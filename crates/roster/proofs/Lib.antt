@@ -1,3 +1,3 @@
 pub mod FaultFacts
 pub mod Firsts
-pub mod Pairs
+pub mod Meanings

@@ -1,6 +1,6 @@
 // What a check finds: nothing, the first day whose entry does not hold its code, or the first broken rule with the
 // caller's own codes on its days.
-#[derive(Clone, Copy)]
+#[derive(Clone, Copy, PartialEq, Eq, Debug)]
 pub enum Finding<'r> {
     Lawful,
     NotHeld {

@@ -1,14 +1,18 @@
 // A caller's roster held against entries and book.
 #![tactic(auto)]
 
-mod faults;
+mod assignment;
 pub mod finding;
+mod past_days;
+mod places;
 mod stretches;
 
 ghost use Rattle.ledger.specs.Ledgers.{ledger};
 ghost use Rattle.roster.specs.Findings.{Checks};
 
+use crate::assignment::Assignment;
 use crate::finding::Finding;
+use crate::past_days::past_days;
 use entry::refusal::Refusal;
 use entry::traits::Entry;
 use ledger::book::Book;
@@ -20,14 +24,14 @@ pub fn check<'r, E: Entry>(
     book: &Book,
     roster: &'r [u8],
 ) -> Result<Finding<'r>, Refusal>
-    ensures { Checks (ledger E.TOP E.known E.meaning entries.now book.now) roster.now result }
+    ensures { Checks (ledger E.Entry entries.now book.now) roster.now result }
 {
     let days = day_count(entries)?;
-    if let Some(number) = faults::past_days(book.rules(), days) {
+    if let Some(number) = past_days(book, days) {
         return Err(Refusal::RulePastDays(number));
     }
     if roster.len() != days as usize {
         return Err(Refusal::WrongLength);
     }
-    Ok(faults::first_fault(entries, book, roster))
+    Ok(Assignment { entries, roster }.first_fault(book))
 }

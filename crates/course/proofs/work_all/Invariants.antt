@@ -6,6 +6,6 @@ use Rattle.course.proofs.work_all.Given as goal
 abbrev pub invariant-loop-call : goal.invariant-loop-call
 invariant-loop-call g l =
     let e = g.E.Entry in
-    let plan = ledger e.TOP e.known e.meaning in
+    let plan = ledger e in
     after_all (plan l.entries l.book) (drop l.call-index l.calls)
     ≡ after_all (plan l.initial.entries l.initial.book) l.calls

@@ -1,29 +1,14 @@
-use Rattle.std.proofs.Common.{◌≡◌, length, ap, ◌∙◌, arith}
-use Rattle.std.proofs.lemmas.Slice.Zip.{Zip-more, either_empty_from_Zip}
+use Rattle.std.proofs.Common.{rules}
+use Rattle.std.proofs.lemmas.Iterator.{YieldsList-from_map}
+use Rattle.std.proofs.lemmas.Iterator.Consumers.{sum_by_from_yields_List}
+use borrow.Author.Tests.{tests}
 use Rattle.entry.specs.Cells.{weigh}
-use Rattle.roster.proofs.Pairs.{weight_cons, weight_end}
+use Rattle.roster.proofs.Meanings.{yields_meanings}
 use Rattle.roster.proofs.stretches.weight_of.Goals as goal
-
-pub loop-entry-preserved : goal.loop-entry-preserved
-loop-entry-preserved g c =
-    let f = g.E.Entry.meaning in
-    let entry = c.in-Some.entry.now in
-    let code = c.in-Some.code.now in
-    let next = c.next in
-    let rests = Zip-more c.loop-entry.entry-iterator next.new.self next.result (c.in-Some.entry, c.in-Some.code)
-    c.in-Some.is next.ensures.steps in
-    let day : c.weight-sum.result ≡ weigh (f entry) code = c.weight-sum.ensures ∙ ap (weigh (f entry)) c.from.ensures in
-    let more = weight_cons f _ _ entry code _ _ rests.0 rests.1 in
-    let light = g.met.E.Entry.weights entry code in
-    let top = g.met.E.Entry.range.1 in
-    let long = ap length rests.0 in
-    let inv = c.loop-entry.invariant in
-    record { whole = omega (arith, inv.whole, more, day); light = omega (arith, inv.light, long, light, top, day) }
 
 pub returns : goal.returns
 returns g c =
-    let f = g.E.Entry.meaning in
-    let next = c.next in
-    let empty = either_empty_from_Zip c.loop-entry.entry-iterator next.new.self next.result
-    c.in-None.is next.ensures.steps in
-    omega (arith, c.loop-entry.invariant.whole, weight_end f _ _ empty)
+    sum_by_from_yields_List (λ p. weigh p.0 p.1) _ _ _ c.sum.ensures.ran
+    (YieldsList-from_map _ (λ p. weigh p.0 p.1)
+    (yields_meanings g.E.Entry.meaning c.args.entries.now c.args.roster.now (cc) (cc))
+    c.map.ensures.closure (λ x r q k. search (rules, tests)))

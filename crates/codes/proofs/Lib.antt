@@ -1,5 +1,0 @@
-mod Digits
-mod Listed
-pub mod Operators
-pub mod Turns
-pub mod Sets

@@ -1,0 +1,13 @@
+use Rattle.std.proofs.Common.{arith}
+use Rattle.ledger.specs.Ledgers.{ledger}
+use Rattle.course.specs.Runs.{Whole}
+use Rattle.course.proofs.RunFacts.{run_to, starts_good}
+use Rattle.course.proofs.replay.Goals as goal
+
+pub returns-clause-good : goal.returns-clause-good
+returns-clause-good g c = λ start.
+    let laws = g.met.E.Entry in
+    let kind = g.E.Entry in
+    let whole : (x : _) → Whole (kind.meaning x) =
+    λ x. ((laws.cells x, λ code. omega (arith, laws.weights x code, laws.range.1)), laws.gapless x) in
+    (run_to _ c.args.calls.now (ledger kind c.work_all.new.entries c.work_all.new.book) c.work_all.ensures).good (starts_good kind whole c.args.entries.now c.args.book.now start)

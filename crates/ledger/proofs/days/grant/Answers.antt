@@ -1,0 +1,9 @@
+use Rattle.std.proofs.Common.{rules}
+use Rattle.ledger.proofs.DayFacts.{grants_on_day}
+use Rattle.ledger.proofs.days.grant.Goals as goal
+
+pub returns : goal.returns
+returns g c =
+    let edit = c.edit_day in
+    grants_on_day g.E.Entry c.args.entries.now c.args.day _ _ c.args.code edit.result edit.new.entries
+    (λ shown left r called. search rules) edit.ensures

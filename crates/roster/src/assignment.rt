@@ -1,0 +1,75 @@
+ghost use Rattle.std.specs.Prelude.{◌≡◌, ◌≤◌, true, map, length, None, Ok};
+ghost use Rattle.std.specs.List.{zip};
+
+use crate::finding::Finding;
+use crate::places::counted_from_one;
+use crate::stretches::{stretch, weight_of};
+use entry::traits::Entry;
+use ledger::book::Book;
+use ledger::rule::Rule;
+
+// The entries of a plan, and for each of its days a code.
+#[derive(Drop)]
+pub(crate) struct Assignment<'e, 'r, E> {
+    pub(crate) entries: &'e [E],
+    pub(crate) roster: &'r [u8],
+    ghost few: { length entries.now ≤ 128 },
+    ghost matched: { length roster.now ≡ length entries.now },
+}
+
+impl<'e, 'r, E: Entry> Assignment<'e, 'r, E> {
+    ghost use Rattle.ledger.specs.Ledgers.{ledger, failing, ends_within};
+    ghost use Rattle.ledger.specs.Rosters.{holds_its_code, keeps};
+    ghost use Rattle.ledger.specs.Rules.{Within};
+    ghost use Rattle.roster.specs.Findings.{shown, verdict, Found};
+
+    // The first fault: all days are looked at before any rule.
+    pub(crate) fn first_fault(&self, book: &Book) -> Finding<'r>
+        requires { failing (ends_within (length self.now.entries.now)) book.now ≡ None }
+        ensures shown { shown result ≡ verdict (ledger E.Entry self.now.entries.now book.now) self.now.roster.now }
+        ensures found { Found (ledger E.Entry self.now.entries.now book.now) self.now.roster.now (Ok result) }
+    {
+        if let Some(day) = self.first_not_held() {
+            return Finding::NotHeld { day };
+        }
+        let Some(number) = self.first_broken(book) else {
+            return Finding::Lawful;
+        };
+        let rule = book.rules()[number as usize - 1];
+        Finding::Broken {
+            rule: number,
+            first: rule.first,
+            last: rule.last,
+            stretch: stretch(rule, self.roster),
+        }
+    }
+
+    // The first day whose entry does not hold its code.
+    fn first_not_held(&self) -> Option<u32>
+        ensures { result ≡ failing holds_its_code (zip (map E.meaning self.now.entries.now) self.now.roster.now) }
+    {
+        let mut days = self.entries.iter().zip(self.roster);
+        counted_from_one(days.position(|(entry, code)| !entry.holds(u32::from(*code))))
+    }
+
+    // The smallest number of a broken rule.
+    fn first_broken(&self, book: &Book) -> Option<u32>
+        requires { failing (ends_within (length self.now.entries.now)) book.now ≡ None }
+        ensures { result ≡ failing (keeps (map E.meaning self.now.entries.now) self.now.roster.now) book.now }
+    {
+        counted_from_one(book.rules().iter().position(|rule| !self.keeps(*rule)))
+    }
+
+    // Whether the rule is withdrawn, or its stretch weighs from its least to its most.
+    #[tactic(auto, using(std::proofs::lemmas::Grind::common_steps, crate::proofs::Meanings::map_stretch))]
+    fn keeps(&self, rule: Rule) -> bool
+        requires { Within 128 63 rule × (ends_within (length self.now.entries.now) rule ≡ true) }
+        ensures { result ≡ keeps (map E.meaning self.now.entries.now) self.now.roster.now rule }
+    {
+        if !rule.in_force {
+            return true;
+        }
+        let weight = weight_of(stretch(rule, self.entries), stretch(rule, self.roster));
+        (rule.least..=rule.most).contains(&weight)
+    }
+}
