@@ -1,0 +1,130 @@
+// A reviewer's fortnight: its rules, and rosters checked against them.
+#![tactic(auto)]
+
+use entry::refusal::Refusal;
+use kinds::collection::Collection;
+use ledger::book::Book;
+use papers::Papers;
+use roster::check;
+use roster::finding::Finding;
+use std::io;
+
+// Ends a line that says what was asked: by which row it is refused, and why.
+fn tell(rt: &HostRuntime, refusal: Refusal) -> io::Result<()> {
+    println!(rt; "refused ({}), {refusal}.", refusal.number())
+}
+
+// Ten working days. The closed letters count; on days 4 and 8 they stay in the safe.
+fn days() -> Result<[Collection; 10], Refusal> {
+    let letters = u32::from(Papers::Letters);
+    let maps = u32::from(Papers::Maps);
+    let both = Collection::new(&[letters, maps], &[letters])?;
+    let maps_only = Collection::new(&[maps], &[letters])?;
+    Ok([
+        both, both, both, maps_only, both, both, both, maps_only, both, both,
+    ])
+}
+
+// Says in a sentence what came of a rule.
+fn tell_rule(rt: &HostRuntime, asked: &str, answer: Result<u32, Refusal>) -> io::Result<()> {
+    print!(rt; "  {asked}: ")?;
+    match answer {
+        Ok(number) => println!(rt; "rule {number}."),
+        Err(refusal) => tell(rt, refusal),
+    }
+}
+
+fn make_rules(rt: &HostRuntime, days: &[Collection], book: &mut Book) -> io::Result<()> {
+    println!(rt; "The rules of a fortnight of ten days:")?;
+    print!(rt; "  Two to three days on closed letters in any five: ")?;
+    match book.slide(days, 5, 2, 3) {
+        Ok(Some((first, last))) => println!(rt; "rules {first} to {last}.")?,
+        Ok(None) => println!(rt; "no rule.")?,
+        Err(refusal) => tell(rt, refusal)?,
+    }
+    tell_rule(
+        rt,
+        "At most two from day 3 to day 7, for the donor",
+        book.rule(days, 3, 7, 0, 2),
+    )?;
+    tell_rule(
+        rt,
+        "At most one from day 9 to day 12",
+        book.rule(days, 9, 12, 0, 1),
+    )?;
+    tell_rule(rt, "Three from day 1 to day 2", book.rule(days, 1, 2, 3, 3))
+}
+
+fn print_codes(rt: &HostRuntime, codes: &[u8]) -> io::Result<()> {
+    for code in codes {
+        match Papers::try_from(u32::from(*code)) {
+            Ok(papers) => print!(rt; " {papers}")?,
+            Err(unknown) => print!(rt; " {}", unknown.code)?,
+        }
+    }
+    println!(rt; "")
+}
+
+fn tell_check(
+    rt: &HostRuntime,
+    days: &[Collection],
+    book: &Book,
+    name: &str,
+    roster: &[u8],
+) -> io::Result<()> {
+    print!(rt; "  {name}: ")?;
+    match check(days, book, roster) {
+        Err(refusal) => tell(rt, refusal),
+        Ok(Finding::Lawful) => println!(rt; "lawful."),
+        Ok(Finding::NotHeld { day }) => println!(rt; "day {day} has what is not open then."),
+        Ok(
+            Finding::Broken {
+                rule,
+                first,
+                last,
+                stretch,
+            },
+        ) => {
+            print!(rt; "breaks rule {rule} from day {first} to day {last}:")?;
+            print_codes(rt, stretch)
+        }
+    }
+}
+
+fn withdraw(rt: &HostRuntime, book: &mut Book, number: u32) -> io::Result<()> {
+    print!(rt; "  Rule {number}: ")?;
+    match book.withdraw(number) {
+        Ok(()) => println!(rt; "withdrawn."),
+        Err(refusal) => tell(rt, refusal),
+    }
+}
+
+// A roster has the code of each day's papers in a byte.
+fn roster(days: [Papers; 10]) -> [u8; 10] {
+    days.map(|papers| papers as u8)
+}
+
+// The rules of a fortnight, and rosters checked against them before and after the donor's rule is withdrawn.
+fn play(rt: &HostRuntime, days: &[Collection]) -> io::Result<()> {
+    use Papers::{Letters as L, Maps as M};
+
+    let dense = roster([L, M, L, M, L, L, M, M, L, M]);
+    let spread = roster([L, L, M, M, L, M, L, M, L, M]);
+    let locked = roster([L, L, M, L, M, M, L, M, L, M]);
+    let mut book = Book::new();
+    make_rules(rt, days, &mut book)?;
+    println!(rt; "\nThree rosters are checked:")?;
+    tell_check(rt, days, &book, "The first", &dense)?;
+    tell_check(rt, days, &book, "The second", &spread)?;
+    tell_check(rt, days, &book, "The third", &locked)?;
+    println!(rt; "\nThe donor takes the rule back, twice by mistake:")?;
+    withdraw(rt, &mut book, 7)?;
+    withdraw(rt, &mut book, 7)?;
+    tell_check(rt, days, &book, "The first roster", &dense)
+}
+
+fn main(rt: HostRuntime) -> anyhow::Result<()> {
+    let days = days()?;
+    play(&rt, &days)?;
+    Ok(())
+}

@@ -1,0 +1,102 @@
+ghost use Rattle.std.specs.Prelude.{◌≤◌};
+
+use entry::refusal::Refusal;
+use entry::traits::Entry;
+use kinds::boxes::Boxes;
+use kinds::collection::Collection;
+use kinds::duty::Duty;
+use papers::Papers;
+use std::fmt;
+
+#[derive(Clone, Copy)]
+pub enum Weekday {
+    Monday,
+    Tuesday,
+    Wednesday,
+    Thursday,
+    Friday,
+}
+
+impl fmt::Display for Weekday {
+    fn fmt<W: fmt::Write>(&self, f: &mut fmt::Formatter<W>) -> fmt::Result {
+        f.pad(match self {
+            Weekday::Monday => "Monday",
+            Weekday::Tuesday => "Tuesday",
+            Weekday::Wednesday => "Wednesday",
+            Weekday::Thursday => "Thursday",
+            Weekday::Friday => "Friday",
+        })
+    }
+}
+
+// One day of a reviewer from three sides, each with an entry of its kind.
+#[derive(Clone, Copy)]
+pub struct Day {
+    pub weekday: Weekday,
+    pub duty: Duty,
+    pub papers: Collection,
+    pub boxes: Boxes,
+}
+
+impl Day {
+    // A day lists each kind of papers once at the most.
+    fn new<const N: usize>(
+        weekday: Weekday,
+        duty: Duty,
+        open: [Papers; N],
+        boxes: Boxes,
+    ) -> Result<Day, Refusal>
+        requires { N ≤ 3 }
+    {
+        // The donor's papers count, the maps do not.
+        let counted = [Papers::Letters, Papers::Drafts];
+        let papers = Collection::new(&open.map(u32::from), &counted.map(u32::from))?;
+        Ok(Day {
+            weekday,
+            duty,
+            papers,
+            boxes,
+        })
+    }
+}
+
+// One reviewer's week, its days in their order.
+#[derive(Clone, Copy)]
+pub struct Week {
+    pub days: [Day; 5],
+}
+
+impl Week {
+    pub(crate) fn new() -> Result<Week, Refusal> {
+        use Papers::{Drafts, Letters, Maps};
+        use Weekday::{Friday, Monday, Thursday, Tuesday, Wednesday};
+
+        let either = Duty::new(&[0, 1])?;
+        let on = Duty::new(&[1])?;
+        let off = Duty::new(&[0])?;
+        Ok(Week {
+            days: [
+                Day::new(Monday, either, [Letters, Drafts, Maps], Boxes::new(0, 4)?)?,
+                Day::new(Tuesday, on, [Letters, Drafts], Boxes::new(1, 4)?)?,
+                Day::new(Wednesday, either, [Drafts], Boxes::new(3, 3)?)?,
+                Day::new(Thursday, on, [Drafts, Maps], Boxes::new(2, 5)?)?,
+                // Low above high: no box for that day.
+                Day::new(Friday, off, [Maps], Boxes::new(1, 0)?)?,
+            ],
+        })
+    }
+
+    pub(crate) fn day(&mut self, weekday: Weekday) -> &mut Day {
+        &mut self.days[weekday as usize]
+    }
+}
+
+// What a plan weighs over its days, at the least and at the most, with no rule.
+pub(crate) fn span<E: Entry>(entries: &[E]) -> (u32, u32) {
+    entries.iter().fold((0u32, 0u32), |(least, most), entry| {
+        (
+            least.saturating_add(entry.lightest()),
+            most.saturating_add(entry.heaviest()),
+        )
+    })
+}

@@ -1,0 +1,53 @@
+use entry::traits::Entry;
+use kinds::boxes::Boxes;
+use kinds::collection::Collection;
+use kinds::duty::Duty;
+use papers::Papers;
+use std::alloc::{AllocError, Global};
+use std::fmt;
+
+#[derive(Clone, Copy)]
+pub(crate) struct DutyWords<'d>(pub(crate) &'d Duty);
+
+impl fmt::Display for DutyWords<'_> {
+    fn fmt<W: fmt::Write>(&self, f: &mut fmt::Formatter<W>) -> fmt::Result {
+        f.pad(match (self.0.holds(0), self.0.holds(1)) {
+            (true, true) => "off or on",
+            (true, false) => "off",
+            (false, true) => "on",
+            (false, false) => "none",
+        })
+    }
+}
+
+// The boxes stand in the last column, so their numbers are not padded.
+#[derive(Clone, Copy)]
+pub(crate) struct BoxWords<'b>(pub(crate) &'b Boxes);
+
+impl fmt::Display for BoxWords<'_> {
+    fn fmt<W: fmt::Write>(&self, f: &mut fmt::Formatter<W>) -> fmt::Result {
+        let low = self.0.lightest();
+        let high = self.0.heaviest();
+        if !self.0.holds(low) {
+            f.pad("none")
+        } else if low == high {
+            write!(f, "{low}")
+        } else {
+            write!(f, "{low} to {high}")
+        }
+    }
+}
+
+// The titles fill a column together, so they are put into one text before it is padded.
+pub(crate) fn titles(heap: Global, open: &Collection) -> Result<String, AllocError> {
+    let mut words = String::new(heap);
+    for papers in [Papers::Letters, Papers::Drafts, Papers::Maps] {
+        if open.holds(u32::from(papers)) {
+            if !words.is_empty() {
+                words.push_str(", ")?;
+            }
+            write!(words, "{papers}")?;
+        }
+    }
+    Ok(words)
+}
