@@ -1,0 +1,5 @@
+mod Digits
+mod Listed
+pub mod Operators
+pub mod Turns
+pub mod Sets

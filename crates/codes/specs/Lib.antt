@@ -1,0 +1,3 @@
+pub mod Coming
+pub mod Members
+pub mod Words
