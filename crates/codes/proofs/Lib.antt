@@ -1,4 +1,3 @@
-mod Digits
 mod Listed
 pub mod Operators
 pub mod Turns

@@ -39,14 +39,14 @@ module _ (x : Collection) where
   abbrev pub weighs : ℕ → ℕ
   weighs = weight_in counted
 
-  light : (c : ℕ) → weighs c ≤ 1
-  light c = counted_light (counted c)
+  low : (c : ℕ) → weighs c ≤ 1
+  low c = counted_light (counted c)
 
   pub sized : Sized m
-  sized = light_sized weighs holds light
+  sized = light_sized weighs holds low
 
   pub no_gap : NoGap m
-  no_gap = cells-gapless weighs holds light
+  no_gap = cells-gapless weighs holds low
 
   -- the cells say what the sets do, of every number
   pub held_is : (c : ℕ) → held m c ≡ holds c

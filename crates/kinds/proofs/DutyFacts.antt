@@ -137,3 +137,10 @@ built ns s off on e o listed =
     let one : on ≡ lists ns 1 = o ∙ ap (λ f. f 1) taken.1 in
     let same : (k : ℕ) → either off on k ≡ lists ns k = λ k. grind (arith, nat_tests, known k taken.0) in
     ap (λ f. Ok (cells duty_weight f)) (λ j k. same k j) ∙ sym (all_taken duty_code ns (cells duty_weight (lists ns)) taken.0)
+
+-- of each method, the cases that its body goes through
+pub ruleset holds_cases = (says_off, says_on, says_neither)
+
+pub ruleset lightest_cases = (lightest_off, lightest_on, says_off_lightest, says_on_lightest)
+
+pub ruleset heaviest_cases = (heaviest_flag, says_heaviest)

@@ -5,9 +5,13 @@ use Rattle.entry.specs.Cells.{Meaning, weigh, held, cells, Sized}
 use Rattle.entry.specs.Weights.{Lightest, Heaviest}
 use Rattle.entry.proofs.CellFacts.{length-cells, weigh_below}
 
+-- no number weighs more than 1
+pub light : (weighs : ℕ → ℕ) (holds : ℕ → Bool) → ((c : ℕ) → weighs c ≤ 1) → (c : ℕ) → weigh (cells weighs holds) c ≤ 1
+light weighs holds low = weigh_below weighs holds 1 (λ c h. low c)
+
 -- 64 cells, and no weight above 63
 pub light_sized : (weighs : ℕ → ℕ) (holds : ℕ → Bool) → ((c : ℕ) → weighs c ≤ 1) → Sized (cells weighs holds)
-light_sized weighs holds light = (length-cells weighs holds, weigh_below weighs holds 63 (λ c h. omega (arith, light c)))
+light_sized weighs holds low = (length-cells weighs holds, λ c. omega (arith, light weighs holds low c))
 
 -- where all held codes weigh the same, the heaviest is the lightest
 pub level : (m : Meaning) (n w : ℕ) → ((c : ℕ) → held m c ≡ true → weigh m c ≡ n) → Heaviest m w → Lightest m w

@@ -163,3 +163,12 @@ module _ (b : Boxes) where
 
   pub says_no_heaviest : b.high < b.low → 0 ≡ heaviest (boxed b)
   says_no_heaviest p = heaviest_is _ _ (heaviest_none p)
+
+-- of each method, the cases that its body goes through
+pub ruleset holds_cases = (says_held, says_below)
+
+pub ruleset weight_cases = (says_weight, says_nothing)
+
+pub ruleset lightest_cases = (lightest_low, lightest_none, says_lightest, says_no_lightest)
+
+pub ruleset heaviest_cases = (heaviest_high, heaviest_none, says_heaviest, says_no_heaviest)

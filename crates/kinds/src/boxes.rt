@@ -15,7 +15,6 @@ pub struct Boxes {
 impl Boxes {
     ghost use Rattle.std.specs.Prelude.{◌≡◌};
     ghost use Rattle.entry.specs.Refusals.{told};
-    ghost use Rattle.kinds.specs.Codes.{any_code};
     ghost use Rattle.kinds.specs.Spans.{boxed, boxes_of};
 
     // The codes from low to high; refused where either is no code.
@@ -65,17 +64,17 @@ impl Entry for Boxes {
         code < 64
     }
 
-    #[tactic(auto, using(crate::proofs::SpanFacts::says_held, crate::proofs::SpanFacts::says_below))]
+    #[tactic(auto, using(crate::proofs::SpanFacts::holds_cases))]
     fn holds(&self, code: u32) -> bool {
         u32::from(self.low) <= code && code <= u32::from(self.high)
     }
 
-    #[tactic(auto, using(crate::proofs::SpanFacts::says_weight, crate::proofs::SpanFacts::says_nothing))]
+    #[tactic(auto, using(crate::proofs::SpanFacts::weight_cases))]
     fn weight(&self, code: u32) -> u32 {
         if Self::known(code) { code } else { 0 }
     }
 
-    #[tactic(auto, using(crate::proofs::SpanFacts::lightest_low, crate::proofs::SpanFacts::lightest_none, crate::proofs::SpanFacts::says_lightest, crate::proofs::SpanFacts::says_no_lightest))]
+    #[tactic(auto, using(crate::proofs::SpanFacts::lightest_cases))]
     fn lightest(&self) -> u32 {
         if self.low <= self.high {
             u32::from(self.low)
@@ -84,7 +83,7 @@ impl Entry for Boxes {
         }
     }
 
-    #[tactic(auto, using(crate::proofs::SpanFacts::heaviest_high, crate::proofs::SpanFacts::heaviest_none, crate::proofs::SpanFacts::says_heaviest, crate::proofs::SpanFacts::says_no_heaviest))]
+    #[tactic(auto, using(crate::proofs::SpanFacts::heaviest_cases))]
     fn heaviest(&self) -> u32 {
         if self.low <= self.high {
             u32::from(self.high)

@@ -1,9 +1,8 @@
-ghost use Rattle.std.specs.Prelude.{◌≡◌, ℕ, List};
+ghost use Rattle.std.specs.Prelude.{◌≡◌};
 ghost use Rattle.std.proofs.Common.{rules};
 ghost use Rattle.codes.specs.Members.{member};
 ghost use Rattle.entry.specs.Refusals.{told};
 ghost use Rattle.entry.proofs.CellFacts.{length-cells, held-known, weigh_unknown, weigh_below, cells-gapless};
-ghost use Rattle.kinds.specs.Listings.{Listed};
 ghost use Rattle.kinds.specs.Codes.{any_code};
 ghost use Rattle.kinds.specs.Collections.{collected, collection_of, weight_in};
 ghost use Rattle.kinds.specs.Laws.{counted_light};
@@ -68,6 +67,7 @@ impl Entry for Collection {
         u32::from(self.counted.contains(code))
     }
 
+    // Where all that is held counts, or nothing is held, the heaviest is the lightest.
     fn lightest(&self) -> u32 {
         let free = self.held - self.counted;
         if free.is_empty() { self.heaviest() } else { 0 }

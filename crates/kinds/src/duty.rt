@@ -1,9 +1,8 @@
-ghost use Rattle.std.specs.Prelude.{◌≡◌, ℕ, List};
+ghost use Rattle.std.specs.Prelude.{◌≡◌};
 ghost use Rattle.std.proofs.Common.{◌∙◌, arith, rules};
 ghost use Rattle.std.proofs.lemmas.Bool.Decides.{nat_tests};
 ghost use Rattle.entry.specs.Refusals.{told};
 ghost use Rattle.entry.proofs.CellFacts.{length-cells, weigh-cells, weigh_below, cells-gapless};
-ghost use Rattle.kinds.specs.Listings.{Listed};
 ghost use Rattle.kinds.specs.Duties.{duty_code, duties, duty_of, duty_weight, either};
 ghost use Rattle.kinds.specs.Laws.{duty_light, held-duty_code};
 
@@ -61,7 +60,7 @@ impl Entry for Duty {
         code < 2
     }
 
-    #[tactic(auto, using(crate::proofs::DutyFacts::says_off, crate::proofs::DutyFacts::says_on, crate::proofs::DutyFacts::says_neither))]
+    #[tactic(auto, using(crate::proofs::DutyFacts::holds_cases))]
     fn holds(&self, code: u32) -> bool {
         match code {
             0 => self.off,
@@ -75,12 +74,12 @@ impl Entry for Duty {
         u32::from(code == 1)
     }
 
-    #[tactic(auto, using(crate::proofs::DutyFacts::lightest_off, crate::proofs::DutyFacts::lightest_on, crate::proofs::DutyFacts::says_off_lightest, crate::proofs::DutyFacts::says_on_lightest))]
+    #[tactic(auto, using(crate::proofs::DutyFacts::lightest_cases))]
     fn lightest(&self) -> u32 {
         if self.off { 0 } else { self.heaviest() }
     }
 
-    #[tactic(auto, using(crate::proofs::DutyFacts::heaviest_flag, crate::proofs::DutyFacts::says_heaviest))]
+    #[tactic(auto, using(crate::proofs::DutyFacts::heaviest_cases))]
     fn heaviest(&self) -> u32 {
         u32::from(self.on)
     }

@@ -9,12 +9,12 @@ use entry::traits::Entry;
 use std::marker::Model;
 
 // A book has room for so many rules over its whole life.
-const ROOM: u32 = 512;
+const ROOM: usize = 512;
 
 // The rules made so far, in the order of their numbers, withdrawn ones included.
 #[derive(Drop)]
 pub struct Book {
-    rules: Bounded<Rule, 512>,
+    rules: Bounded<Rule, ROOM>,
 }
 
 // Clauses see the list of the rules.
@@ -42,13 +42,7 @@ impl Book {
     pub fn new() -> Book
         ensures { result ≡ [] }
     {
-        let filler = Rule {
-            first: 0,
-            last: 0,
-            least: 0,
-            most: 0,
-            in_force: false,
-        };
+        let filler = Rule::made(0, 0, 0, 0).ended();
         Book {
             rules: Bounded::new(filler),
         }
@@ -78,13 +72,7 @@ impl Book {
         if first == 0 || last < first || days < last {
             return Err(Refusal::BadWindow);
         }
-        let rule = Rule {
-            first,
-            last,
-            least,
-            most,
-            in_force: true,
-        };
+        let rule = Rule::made(first, last, least, most);
         if rule.has_bad_count::<E>() {
             return Err(Refusal::BadCount);
         }
@@ -107,13 +95,7 @@ impl Book {
         if width == 0 {
             return Err(Refusal::BadWindow);
         }
-        let window = Rule {
-            first: 1,
-            last: width,
-            least,
-            most,
-            in_force: true,
-        };
+        let window = Rule::made(1, width, least, most);
         if window.has_bad_count::<E>() {
             return Err(Refusal::BadCount);
         }
@@ -150,11 +132,11 @@ impl Book {
     fn count_before(&self, more: u32) -> Result<u32, Refusal>
         ensures { result ≡ (if nat_lt 512 (length self.now + more) then Err BookFull else Ok (length self.now)) }
     {
-        let count = self.rules.len() as u32;
-        if more > ROOM - count {
+        let count = self.rules.len();
+        if more as usize > ROOM - count {
             return Err(Refusal::BookFull);
         }
-        Ok(count)
+        Ok(count as u32)
     }
 
     // The callers have seen to it that there is room.
@@ -171,12 +153,7 @@ impl Book {
         ensures { self.new ≡ self.old ++ windows count window.last window.least window.most }
     {
         for later in 0..count {
-            self.add::<E>(Rule {
-                first: later + 1,
-                last: later + window.last,
-                in_force: true,
-                ..window
-            });
+            self.add::<E>(Rule::made(later + 1, later + window.last, window.least, window.most));
         }
     }
 
@@ -185,10 +162,7 @@ impl Book {
         requires { at < length self.old }
         ensures { self.new ≡ withdrawn self.old (at + 1) }
     {
-        let rule = Rule {
-            in_force: false,
-            ..self.rules()[at]
-        };
+        let rule = self.rules()[at].ended();
         let _ = self.rules.set(at, rule);
     }
 }

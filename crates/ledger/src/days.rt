@@ -44,17 +44,9 @@ fn edit_day<E: Entry, F: FnOnce(&mut E) -> Result<(), Refusal>>(
 pub fn day_count<E: Entry>(entries: &[E]) -> Result<u32, Refusal>
     ensures { CountsDays E.meaning entries.now result }
 {
-    let days = entry_count(entries);
+    let days = entries.len();
     if days > 128 {
         return Err(Refusal::TooManyDays);
     }
     Ok(days as u32)
-}
-
-// There are as many meanings as entries.
-fn entry_count<E: Entry>(entries: &[E]) -> usize
-    ensures days { result ≡ length (map E.meaning entries.now) }
-    ensures entries { result ≡ length entries.now }
-{
-    entries.len()
 }

@@ -1,4 +1,5 @@
-ghost use Rattle.std.specs.Prelude.{◌≡◌, ◌+◌, ◌-◌, ◌*◌, ◌≤◌, ◌||◌, nat_lt};
+ghost use Rattle.std.specs.Prelude.{◌≡◌, ◌+◌, ◌-◌, ◌*◌, ◌||◌, nat_lt};
+ghost use Rattle.ledger.specs.Rules.{made, ended};
 
 use entry::traits::Entry;
 
@@ -14,12 +15,34 @@ pub struct Rule {
 }
 
 impl Rule {
+    // A new rule is in force.
+    pub fn made(first: u32, last: u32, least: u32, most: u32) -> Rule
+        ensures { result ≡ made first last least most }
+    {
+        Rule {
+            first,
+            last,
+            least,
+            most,
+            in_force: true,
+        }
+    }
+
+    // The rule, no longer in force.
+    pub fn ended(self) -> Rule
+        ensures { result ≡ ended self }
+    {
+        Rule {
+            in_force: false,
+            ..self
+        }
+    }
+
     // Whether least is above most, or most above what the days can weigh. The product may need 64 bits.
     pub(crate) fn has_bad_count<E: Entry>(self) -> bool
-        requires { self.first ≤ self.last }
         ensures { result ≡ (nat_lt self.most self.least || nat_lt (E.TOP * (self.last - self.first + 1)) self.most) }
     {
-        let days = u64::from(self.last - self.first) + 1;
+        let days = u64::from(self.last.saturating_sub(self.first)) + 1;
         self.most < self.least || u64::from(E::TOP) * days < u64::from(self.most)
     }
 }

@@ -1,5 +1,6 @@
 ghost use Rattle.std.specs.Prelude.{◌≡◌, ◌≤◌, true, map, length, None, Ok};
 ghost use Rattle.std.specs.List.{zip};
+ghost use Rattle.ledger.specs.Ledgers.{failing, ends_within};
 
 use crate::finding::Finding;
 use crate::places::counted_from_one;
@@ -8,34 +9,35 @@ use entry::traits::Entry;
 use ledger::book::Book;
 use ledger::rule::Rule;
 
-// The entries of a plan, and for each of its days a code.
+// A plan, whose rules in force end within its days, and for each of the days a code.
 #[derive(Drop)]
-pub(crate) struct Assignment<'e, 'r, E> {
-    pub(crate) entries: &'e [E],
+pub(crate) struct Assignment<'p, 'r, E> {
+    pub(crate) entries: &'p [E],
+    pub(crate) book: &'p Book,
     pub(crate) roster: &'r [u8],
     ghost few: { length entries.now ≤ 128 },
+    ghost within: { failing (ends_within (length entries.now)) book.now ≡ None },
     ghost matched: { length roster.now ≡ length entries.now },
 }
 
-impl<'e, 'r, E: Entry> Assignment<'e, 'r, E> {
-    ghost use Rattle.ledger.specs.Ledgers.{ledger, failing, ends_within};
+impl<'p, 'r, E: Entry> Assignment<'p, 'r, E> {
+    ghost use Rattle.ledger.specs.Ledgers.{ledger};
     ghost use Rattle.ledger.specs.Rosters.{holds_its_code, keeps};
     ghost use Rattle.ledger.specs.Rules.{Within};
     ghost use Rattle.roster.specs.Findings.{shown, verdict, Found};
 
     // The first fault: all days are looked at before any rule.
-    pub(crate) fn first_fault(&self, book: &Book) -> Finding<'r>
-        requires { failing (ends_within (length self.now.entries.now)) book.now ≡ None }
-        ensures shown { shown result ≡ verdict (ledger E.Entry self.now.entries.now book.now) self.now.roster.now }
-        ensures found { Found (ledger E.Entry self.now.entries.now book.now) self.now.roster.now (Ok result) }
+    pub(crate) fn first_fault(&self) -> Finding<'r>
+        ensures shown { shown result ≡ verdict (ledger E.Entry self.now.entries.now self.now.book.now) self.now.roster.now }
+        ensures found { Found (ledger E.Entry self.now.entries.now self.now.book.now) self.now.roster.now (Ok result) }
     {
         if let Some(day) = self.first_not_held() {
             return Finding::NotHeld { day };
         }
-        let Some(number) = self.first_broken(book) else {
+        let Some(number) = self.first_broken() else {
             return Finding::Lawful;
         };
-        let rule = book.rules()[number as usize - 1];
+        let rule = self.book.rules()[number as usize - 1];
         Finding::Broken {
             rule: number,
             first: rule.first,
@@ -53,11 +55,10 @@ impl<'e, 'r, E: Entry> Assignment<'e, 'r, E> {
     }
 
     // The smallest number of a broken rule.
-    fn first_broken(&self, book: &Book) -> Option<u32>
-        requires { failing (ends_within (length self.now.entries.now)) book.now ≡ None }
-        ensures { result ≡ failing (keeps (map E.meaning self.now.entries.now) self.now.roster.now) book.now }
+    fn first_broken(&self) -> Option<u32>
+        ensures { result ≡ failing (keeps (map E.meaning self.now.entries.now) self.now.roster.now) self.now.book.now }
     {
-        counted_from_one(book.rules().iter().position(|rule| !self.keeps(*rule)))
+        counted_from_one(self.book.rules().iter().position(|rule| !self.keeps(*rule)))
     }
 
     // Whether the rule is withdrawn, or its stretch weighs from its least to its most.

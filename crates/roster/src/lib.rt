@@ -30,8 +30,13 @@ pub fn check<'r, E: Entry>(
     if let Some(number) = past_days(book, days) {
         return Err(Refusal::RulePastDays(number));
     }
-    if roster.len() != days as usize {
+    if roster.len() != entries.len() {
         return Err(Refusal::WrongLength);
     }
-    Ok(Assignment { entries, roster }.first_fault(book))
+    let assignment = Assignment {
+        entries,
+        book,
+        roster,
+    };
+    Ok(assignment.first_fault())
 }

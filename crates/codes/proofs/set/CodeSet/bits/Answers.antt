@@ -3,4 +3,4 @@ use Rattle.codes.proofs.Sets.{word_of}
 use Rattle.codes.proofs.set.CodeSet.bits.Goals as goal
 
 pub returns : goal.returns
-returns c = word_of c.args.self (omega arith)
+returns c = word_of _ (omega arith)

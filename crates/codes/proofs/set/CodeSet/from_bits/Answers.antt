@@ -3,4 +3,4 @@ use Rattle.codes.proofs.Sets.{word_of}
 use Rattle.codes.proofs.set.CodeSet.from_bits.Goals as goal
 
 pub returns : goal.returns
-returns c = word_of (record { 0 = c.args.bits }) (omega arith)
+returns c = word_of _ (omega arith)

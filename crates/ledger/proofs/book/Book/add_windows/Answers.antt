@@ -10,7 +10,7 @@ add-requires g c =
     let few : length c.loop-later.self ≡ length c.args.self.now + later = simp (c.loop-later.invariant, length-append, length-map-range_with_len) in
     let days = c.requires.2 (λ e. absurd (omega arith)) in
     let width : later + window.last - (later + 1) + 1 ≡ window.last = omega arith in
-    (omega arith, (omega arith, omega arith, omega arith, omega arith, rw width c.requires.4))
+    rw c.made.ensures (omega arith, (omega arith, omega arith, omega arith, omega arith, rw width c.requires.4))
 
 pub loop-later-preserved : goal.loop-later-preserved
 loop-later-preserved g c =

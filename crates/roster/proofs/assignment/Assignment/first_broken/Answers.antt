@@ -12,7 +12,7 @@ pub position-requires-clause-callable : goal.position-requires-clause-callable
 position-requires-clause-callable g c =
     let days = length c.args.self.now.entries.now in
     let book = c.rules in
-    let within = rules_within c.args.book.now book.result.now days book.ensures.rules book.ensures.bounds c.requires in
+    let within = rules_within c.args.self.now.book.now book.result.now days book.ensures.rules book.ensures.bounds c.args.self.now.within in
     serves_from_places (YieldsList-from_slice book.result.now cc) (λ x q k. grind arith)
     (λ x k lt e. rw e (search (rules, within k x.now lt)))
 
@@ -21,6 +21,6 @@ returns g c =
     let plan = c.args.self.now in
     let test = keeps (map g.E.Entry.meaning plan.entries.now) plan.roster.now in
     c.counted_from_one.ensures
-    ∙ failing_from_position test c.args.book.now c.position.result
-    (position_from_yields_List (λ rule. not (test rule)) _ _ _ c.position.ensures.ran (YieldsList-from_slice c.args.book.now cc)
+    ∙ failing_from_position test c.args.self.now.book.now c.position.result
+    (position_from_yields_List (λ rule. not (test rule)) _ _ _ c.position.ensures.ran (YieldsList-from_slice c.args.self.now.book.now cc)
     (λ x b q k. search (rules, tests)))

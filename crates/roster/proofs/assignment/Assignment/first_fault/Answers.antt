@@ -14,11 +14,11 @@ returns-in_default-first_broken-clause-found g c =
 
 pub stretch-requires : goal.stretch-requires
 stretch-requires g c =
-    let plan = ledger g.E.Entry c.args.self.now.entries.now c.args.book.now in
+    let plan = ledger g.E.Entry c.args.self.now.entries.now c.args.self.now.book.now in
     let rules = c.rules in
     let broken = c.in-Some-first_broken in
     let within = broken_within plan c.args.self.now.roster.now rules.result.now rules.ensures.rules broken.number
-    (sym broken.ensures) (length c.args.self.now.entries.now) rules.ensures.bounds c.requires in
+    (sym broken.ensures) (length c.args.self.now.entries.now) rules.ensures.bounds c.args.self.now.within in
     (within.0, within.1, omega (arith, within.2))
 
 pub returns-clause-found : goal.returns-clause-found
