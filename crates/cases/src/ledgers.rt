@@ -9,24 +9,6 @@ use ledger::days::{day_count, grant, strike};
 use ledger::rule::Rule;
 use std::test::Fail;
 
-// A rule in force.
-fn rule(first: u32, last: u32, least: u32, most: u32) -> Rule {
-    Rule {
-        first,
-        last,
-        least,
-        most,
-        in_force: true,
-    }
-}
-
-fn withdrawn(rule: Rule) -> Rule {
-    Rule {
-        in_force: false,
-        ..rule
-    }
-}
-
 #[test]
 fn windows_of_seven_days(rt: HostRuntime) -> Result<(), Fail> {
     let days = [Duty::new(&[0, 1])?; 7];
@@ -35,10 +17,10 @@ fn windows_of_seven_days(rt: HostRuntime) -> Result<(), Fail> {
         assert_eq!(rt; book.slide(&days, width, 2, 3), Ok(numbers));
     }
     let expected = [
-        rule(1, 5, 2, 3),
-        rule(2, 6, 2, 3),
-        rule(3, 7, 2, 3),
-        rule(1, 7, 2, 3),
+        Rule::made(1, 5, 2, 3),
+        Rule::made(2, 6, 2, 3),
+        Rule::made(3, 7, 2, 3),
+        Rule::made(1, 7, 2, 3),
     ];
     assert_eq!(rt; book.rules(), expected.as_slice());
     Ok(())
@@ -53,10 +35,10 @@ fn withdrawn_rules_keep_their_numbers(rt: HostRuntime) -> Result<(), Fail> {
     assert_eq!(rt; book.withdraw(2), Err(Refusal::NoSuchRule));
     assert_eq!(rt; book.rule(&days, 2, 4, 1, 2), Ok(4));
     let expected = [
-        rule(1, 5, 2, 3),
-        withdrawn(rule(2, 6, 2, 3)),
-        rule(3, 7, 2, 3),
-        rule(2, 4, 1, 2),
+        Rule::made(1, 5, 2, 3),
+        Rule::made(2, 6, 2, 3).ended(),
+        Rule::made(3, 7, 2, 3),
+        Rule::made(2, 4, 1, 2),
     ];
     assert_eq!(rt; book.rules(), expected.as_slice());
     Ok(())
@@ -208,9 +190,9 @@ fn a_course_of_calls(rt: HostRuntime) -> Result<(), Fail> {
     let mut book = Book::new();
     replay(&mut days, &mut book, &COURSE);
     let expected = [
-        withdrawn(rule(1, 2, 2, 8)),
-        rule(2, 3, 2, 8),
-        rule(3, 3, 5, 5),
+        Rule::made(1, 2, 2, 8).ended(),
+        Rule::made(2, 3, 2, 8),
+        Rule::made(3, 3, 5, 5),
     ];
     assert_eq!(rt; book.rules(), expected.as_slice());
     assert!(rt; days[0].holds(4) && !days[1].holds(4) && days[1].holds(2) && days[2].holds(5));

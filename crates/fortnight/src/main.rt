@@ -99,18 +99,13 @@ fn withdraw(rt: &HostRuntime, book: &mut Book, number: u32) -> io::Result<()> {
     }
 }
 
-// A roster has the code of each day's papers in a byte.
-fn roster(days: [Papers; 10]) -> [u8; 10] {
-    days.map(|papers| papers as u8)
-}
-
 // The rules of a fortnight, and rosters checked against them before and after the donor's rule is withdrawn.
 fn play(rt: &HostRuntime, days: &[Collection]) -> io::Result<()> {
     use Papers::{Letters as L, Maps as M};
 
-    let dense = roster([L, M, L, M, L, L, M, M, L, M]);
-    let spread = roster([L, L, M, M, L, M, L, M, L, M]);
-    let locked = roster([L, L, M, L, M, M, L, M, L, M]);
+    let dense = [L, M, L, M, L, L, M, M, L, M].map(u8::from);
+    let spread = [L, L, M, M, L, M, L, M, L, M].map(u8::from);
+    let locked = [L, L, M, L, M, M, L, M, L, M].map(u8::from);
     let mut book = Book::new();
     make_rules(rt, days, &mut book)?;
     println!(rt; "\nThree rosters are checked:")?;

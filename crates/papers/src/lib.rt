@@ -30,6 +30,15 @@ impl From<Papers> for u32 {
     }
 }
 
+// A roster has a day's code in a byte.
+impl From<Papers> for u8 {
+    ghost from_gives = { λ papers code. code ≡ code_of papers };
+
+    fn from(papers: Papers) -> u8 {
+        papers as u8
+    }
+}
+
 impl TryFrom<u32> for Papers {
     type Error = UnknownPapers;
 

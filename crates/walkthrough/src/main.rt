@@ -8,7 +8,7 @@ use entry::refusal::Refusal;
 use entry::traits::Entry;
 use papers::Papers;
 use std::io;
-use week::{Week, Weekday, span};
+use week::{Shift, Week, Weekday, span};
 use words::{BoxWords, DutyWords, titles};
 
 fn print_week(rt: &HostRuntime, week: &Week) -> io::Result<()> {
@@ -18,8 +18,8 @@ fn print_week(rt: &HostRuntime, week: &Week) -> io::Result<()> {
         println!(rt;
             "  {:<10} {:<10} {papers:<22} {}",
             day.weekday,
-            DutyWords(&day.duty),
-            BoxWords(&day.boxes)
+            DutyWords(day.duty),
+            BoxWords(day.boxes)
         )?;
     }
     let (closed, closed_most) = span(&week.days.map(|day| day.papers));
@@ -74,8 +74,18 @@ fn move_boxes(rt: &HostRuntime, week: &mut Week) -> io::Result<()> {
 fn open_friday(rt: &HostRuntime, week: &mut Week) -> io::Result<()> {
     println!(rt; "\nThe reading room opens on Friday again:")?;
     let day = week.day(Weekday::Friday);
-    tell(rt, day.weekday, "on duty", day.duty.grant(1))?;
-    tell(rt, day.weekday, "no day off", day.duty.strike(0))
+    tell(
+        rt,
+        day.weekday,
+        "on duty",
+        day.duty.grant(u32::from(Shift::On)),
+    )?;
+    tell(
+        rt,
+        day.weekday,
+        "no day off",
+        day.duty.strike(u32::from(Shift::Off)),
+    )
 }
 
 fn main(rt: HostRuntime) -> anyhow::Result<()> {

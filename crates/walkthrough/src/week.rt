@@ -29,6 +29,19 @@ impl fmt::Display for Weekday {
     }
 }
 
+// The two codes of duty, in the order of their numbers.
+#[derive(Clone, Copy)]
+pub enum Shift {
+    Off,
+    On,
+}
+
+impl From<Shift> for u32 {
+    fn from(shift: Shift) -> u32 {
+        shift as u32
+    }
+}
+
 // One day of a reviewer from three sides, each with an entry of its kind.
 #[derive(Clone, Copy)]
 pub struct Day {
@@ -71,9 +84,9 @@ impl Week {
         use Papers::{Drafts, Letters, Maps};
         use Weekday::{Friday, Monday, Thursday, Tuesday, Wednesday};
 
-        let either = Duty::new(&[0, 1])?;
-        let on = Duty::new(&[1])?;
-        let off = Duty::new(&[0])?;
+        let either = Duty::new(&[Shift::Off, Shift::On].map(u32::from))?;
+        let on = Duty::new(&[u32::from(Shift::On)])?;
+        let off = Duty::new(&[u32::from(Shift::Off)])?;
         Ok(Week {
             days: [
                 Day::new(Monday, either, [Letters, Drafts, Maps], Boxes::new(0, 4)?)?,

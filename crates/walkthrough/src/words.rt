@@ -1,3 +1,4 @@
+use crate::week::Shift;
 use entry::traits::Entry;
 use kinds::boxes::Boxes;
 use kinds::collection::Collection;
@@ -7,11 +8,12 @@ use std::alloc::{AllocError, Global};
 use std::fmt;
 
 #[derive(Clone, Copy)]
-pub(crate) struct DutyWords<'d>(pub(crate) &'d Duty);
+pub(crate) struct DutyWords(pub(crate) Duty);
 
-impl fmt::Display for DutyWords<'_> {
+impl fmt::Display for DutyWords {
     fn fmt<W: fmt::Write>(&self, f: &mut fmt::Formatter<W>) -> fmt::Result {
-        f.pad(match (self.0.holds(0), self.0.holds(1)) {
+        let [off, on] = [Shift::Off, Shift::On].map(|shift| self.0.holds(u32::from(shift)));
+        f.pad(match (off, on) {
             (true, true) => "off or on",
             (true, false) => "off",
             (false, true) => "on",
@@ -22,9 +24,9 @@ impl fmt::Display for DutyWords<'_> {
 
 // The boxes stand in the last column, so their numbers are not padded.
 #[derive(Clone, Copy)]
-pub(crate) struct BoxWords<'b>(pub(crate) &'b Boxes);
+pub(crate) struct BoxWords(pub(crate) Boxes);
 
-impl fmt::Display for BoxWords<'_> {
+impl fmt::Display for BoxWords {
     fn fmt<W: fmt::Write>(&self, f: &mut fmt::Formatter<W>) -> fmt::Result {
         let low = self.0.lightest();
         let high = self.0.heaviest();
