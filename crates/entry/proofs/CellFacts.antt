@@ -34,9 +34,6 @@ module _ (weighs : ℕ → ℕ) (holds : ℕ → Bool) where
   pub code_held : (c : ℕ) → c < 64 → holds c ≡ true → held (cells weighs holds) c ≡ true
   code_held c h t = grind (arith, nat_tests, cells_at)
 
-  pub code_not : (c : ℕ) → holds c ≡ false → held (cells weighs holds) c ≡ false
-  code_not c f = grind (arith, nat_tests, cells_at)
-
   pub weigh_below : (n : ℕ) → ((c : ℕ) → c < 64 → weighs c ≤ n) → (c : ℕ) → weigh (cells weighs holds) c ≤ n
   weigh_below n low c = grind (arith, nat_tests, cells_at, low)
 

@@ -1,4 +1,5 @@
 ghost use Rattle.std.specs.Prelude.{◌≡◌, Some};
+ghost use Rattle.std.specs.Fmt.{padded};
 ghost use Rattle.entry.specs.Refusals.{row_of, words_of};
 
 use std::error::Error;
@@ -50,14 +51,12 @@ impl Refusal {
             Refusal::AnswersFull => 16,
         }
     }
-}
 
-// The row in a few words, for a reader who asked for what was declined.
-impl fmt::Display for Refusal {
-    ghost output = { λ refusal. Some (words_of refusal) };
-
-    fn fmt<W: fmt::Write>(&self, f: &mut fmt::Formatter<W>) -> fmt::Result {
-        f.write_str(match self {
+    // The row in a few words, for a reader who asked for what was declined.
+    fn words(self) -> &'static str
+        ensures { result.now ≡ words_of self }
+    {
+        match self {
             Refusal::TooManyDays => "a plan has 128 days at the most",
             Refusal::EmptyDay(_) => "a day holds no code",
             Refusal::NoSuchDay => "the plan has no such day",
@@ -74,7 +73,17 @@ impl fmt::Display for Refusal {
             Refusal::WrongLength => "the list is not as long as the plan",
             Refusal::BadLine => "no such line can stand there",
             Refusal::AnswersFull => "the answers do not fit",
-        })
+        }
+    }
+}
+
+impl fmt::Display for Refusal {
+    ghost output = { λ refusal. Some (words_of refusal) };
+
+    ghost styled_output = { λ refusal spec. Some (padded spec (words_of refusal)) };
+
+    fn fmt<W: fmt::Write>(&self, f: &mut fmt::Formatter<W>) -> fmt::Result {
+        f.pad(self.words())
     }
 }
 

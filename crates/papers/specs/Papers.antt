@@ -1,6 +1,5 @@
 -- Papers: the code of each, its title, and the papers that a code stands for.
-use Rattle.std.specs.Prelude.{ℕ, if◌then◌else◌, ◌==◌, ◌++◌, List, Result, Ok, Err, codes}
-use Rattle.std.specs.Fmt.{decimal}
+use Rattle.std.specs.Prelude.{ℕ, if◌then◌else◌, ◌==◌, List, Result, Ok, Err, codes}
 use Rattle.papers.specs.declared.Papers.{Papers}
 use Rattle.papers.specs.declared.Papers.TheVariants.{Letters, Drafts, Maps}
 use Rattle.papers.specs.declared.UnknownPapers.{UnknownPapers}
@@ -24,7 +23,3 @@ abbrev pub title_of : Papers → List ℕ
 title_of Letters = codes "letters"
 title_of Drafts = codes "drafts"
 title_of Maps = codes "maps"
-
--- what is said of a number that is the code of no papers
-abbrev pub unknown_words : UnknownPapers → List ℕ
-unknown_words unknown = codes "no papers have the code " ++ decimal unknown.code

@@ -3,9 +3,8 @@
 
 ghost use Rattle.std.specs.Prelude.{◌≡◌, Some};
 ghost use Rattle.std.specs.Fmt.{padded};
-ghost use Rattle.papers.specs.Papers.{code_of, title_of, papers_of, unknown_words};
+ghost use Rattle.papers.specs.Papers.{code_of, title_of, papers_of};
 
-use std::error::Error;
 use std::fmt;
 
 // What is opened under one code.
@@ -67,13 +66,3 @@ impl fmt::Display for Papers {
         })
     }
 }
-
-impl fmt::Display for UnknownPapers {
-    ghost output = { λ unknown. Some (unknown_words unknown) };
-
-    fn fmt<W: fmt::Write>(&self, f: &mut fmt::Formatter<W>) -> fmt::Result {
-        write!(f, "no papers have the code {}", self.code)
-    }
-}
-
-impl Error for UnknownPapers {}

@@ -1,5 +1,3 @@
-ghost use Rattle.std.specs.Prelude.{◌≤◌};
-
 use entry::refusal::Refusal;
 use entry::traits::Entry;
 use kinds::boxes::Boxes;
@@ -52,18 +50,10 @@ pub struct Day {
 }
 
 impl Day {
-    // A day lists each kind of papers once at the most.
-    fn new<const N: usize>(
-        weekday: Weekday,
-        duty: Duty,
-        open: [Papers; N],
-        boxes: Boxes,
-    ) -> Result<Day, Refusal>
-        requires { N ≤ 3 }
-    {
+    fn new(weekday: Weekday, duty: Duty, open: &[u32], boxes: Boxes) -> Result<Day, Refusal> {
         // The donor's papers count, the maps do not.
-        let counted = [Papers::Letters, Papers::Drafts];
-        let papers = Collection::new(&open.map(u32::from), &counted.map(u32::from))?;
+        let counted = [Papers::Letters, Papers::Drafts].map(u32::from);
+        let papers = Collection::new(open, &counted)?;
         Ok(Day {
             weekday,
             duty,
@@ -81,20 +71,22 @@ pub struct Week {
 
 impl Week {
     pub(crate) fn new() -> Result<Week, Refusal> {
-        use Papers::{Drafts, Letters, Maps};
         use Weekday::{Friday, Monday, Thursday, Tuesday, Wednesday};
 
+        let [letters, drafts, maps] = [Papers::Letters, Papers::Drafts, Papers::Maps].map(
+            u32::from,
+        );
         let either = Duty::new(&[Shift::Off, Shift::On].map(u32::from))?;
         let on = Duty::new(&[u32::from(Shift::On)])?;
         let off = Duty::new(&[u32::from(Shift::Off)])?;
         Ok(Week {
             days: [
-                Day::new(Monday, either, [Letters, Drafts, Maps], Boxes::new(0, 4)?)?,
-                Day::new(Tuesday, on, [Letters, Drafts], Boxes::new(1, 4)?)?,
-                Day::new(Wednesday, either, [Drafts], Boxes::new(3, 3)?)?,
-                Day::new(Thursday, on, [Drafts, Maps], Boxes::new(2, 5)?)?,
+                Day::new(Monday, either, &[letters, drafts, maps], Boxes::new(0, 4)?)?,
+                Day::new(Tuesday, on, &[letters, drafts], Boxes::new(1, 4)?)?,
+                Day::new(Wednesday, either, &[drafts], Boxes::new(3, 3)?)?,
+                Day::new(Thursday, on, &[drafts, maps], Boxes::new(2, 5)?)?,
                 // Low above high: no box for that day.
-                Day::new(Friday, off, [Maps], Boxes::new(1, 0)?)?,
+                Day::new(Friday, off, &[maps], Boxes::new(1, 0)?)?,
             ],
         })
     }
