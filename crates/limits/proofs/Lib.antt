@@ -1,0 +1,2 @@
+pub mod SystemFacts
+pub mod Writing
