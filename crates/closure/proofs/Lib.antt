@@ -1,0 +1,4 @@
+pub mod ClosingFacts
+pub mod ClosureFacts
+pub mod DayFacts
+pub mod StepFacts

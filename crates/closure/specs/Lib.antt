@@ -1,0 +1,3 @@
+pub mod Closures
+pub mod Rows
+pub mod Allowances
