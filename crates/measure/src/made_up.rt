@@ -1,0 +1,115 @@
+use anyhow::anyhow;
+use bounded::Bounded;
+use limits::system::{LARGEST, MARKS, System, TOP};
+use limits::unfit::Unfit;
+use std::fmt;
+use std::str::FromStr;
+
+#[derive(Clone, Copy, PartialEq, Eq, Debug)]
+pub(crate) enum Sort {
+    // Has a solution.
+    Agreed,
+    // Has none: the last rule asks more of its days than these can weigh.
+    Blocked,
+    // Has a solution, but the first rules, of one day each, lead to the smallest totals only all together.
+    Slow,
+}
+
+impl FromStr for Sort {
+    type Err = anyhow::Error;
+
+    fn from_str(word: &str) -> anyhow::Result<Sort> {
+        match word {
+            "agreed" => Ok(Sort::Agreed),
+            "blocked" => Ok(Sort::Blocked),
+            "slow" => Ok(Sort::Slow),
+            _ => Err(anyhow!("no sort of system: {word}")),
+        }
+    }
+}
+
+impl fmt::Display for Sort {
+    fn fmt<W: fmt::Write>(&self, f: &mut fmt::Formatter<W>) -> fmt::Result {
+        f.pad(match self {
+            Sort::Agreed => "agreed",
+            Sort::Blocked => "blocked",
+            Sort::Slow => "slow",
+        })
+    }
+}
+
+// How far a day or a rule strays from the hidden weights at most.
+const DAY_LEEWAY: u32 = 15;
+
+const RULE_LEEWAY: u32 = 8;
+
+// Numbers that look like chance, the same in every run.
+#[derive(Drop)]
+struct Draws(u32);
+
+impl Draws {
+    fn between(&mut self, low: u32, high: u32) -> u32 {
+        self.0 = self.0.wrapping_mul(1_664_525).wrapping_add(1_013_904_223);
+        let count = high.saturating_sub(low).saturating_add(1);
+        low.wrapping_add((self.0 >> 16) % count)
+    }
+
+    // The first and the last of some days in a row.
+    fn window(&mut self, days: u32) -> (u32, u32) {
+        let first = self.between(1, days);
+        (first, self.between(first, days))
+    }
+}
+
+// A system whose days and rules stand around hidden weights, which solve it unless it is blocked.
+pub(crate) fn made_up(days: u32, rules: u32, sort: Sort) -> Result<System, Unfit> {
+    let mut draws = Draws(days);
+    let mut system = System::new();
+    let totals = add_days(&mut system, &mut draws, days)?;
+    for number in 1..=rules {
+        let alone = sort == Sort::Slow && number <= days;
+        let blocks = sort == Sort::Blocked && number == rules;
+        let (first, last) = if alone {
+            (number, number)
+        } else {
+            draws.window(days)
+        };
+        let before = first.saturating_sub(1);
+        let sum = total_at(&totals, last).saturating_sub(total_at(&totals, before));
+        let least = if alone {
+            sum
+        } else if blocks {
+            let count = last.saturating_sub(before);
+            sum.saturating_add(count.saturating_mul(DAY_LEEWAY + 1))
+        } else {
+            draws.between(sum.saturating_sub(RULE_LEEWAY), sum.saturating_sub(1))
+        };
+        let most = sum.max(least).saturating_add(draws.between(1, RULE_LEEWAY));
+        system.add_rule(number, first, last, least.min(LARGEST), most.min(LARGEST))?;
+    }
+    Ok(system)
+}
+
+// The answer is the hidden total at each mark.
+fn add_days(
+    system: &mut System,
+    draws: &mut Draws,
+    days: u32,
+) -> Result<Bounded<u32, MARKS>, Unfit> {
+    let mut total = 0u32;
+    let mut totals = Bounded::new(total);
+    let _ = totals.push(total);
+    for _ in 0..days {
+        let weight = draws.between(0, TOP);
+        let lightest = draws.between(weight.saturating_sub(DAY_LEEWAY), weight);
+        let heaviest = draws.between(weight, weight.saturating_add(DAY_LEEWAY).min(TOP));
+        system.add_day(lightest, heaviest)?;
+        total = total.wrapping_add(weight);
+        let _ = totals.push(total);
+    }
+    Ok(totals)
+}
+
+fn total_at(totals: &Bounded<u32, MARKS>, mark: u32) -> u32 {
+    totals.as_slice().get(mark as usize).copied().unwrap_or(0)
+}

@@ -1,0 +1,97 @@
+// Judges and closes made-up systems, to be measured: measure DAYS RULES SORT WORK TIMES, or with no arguments a small run.
+// bench/plain.rs prints the same.
+#![tactic(auto)]
+
+mod checksum;
+mod made_up;
+mod task;
+
+use chains::judge;
+use checksum::Checksum;
+use closure::Closure;
+use limits::link::Mark;
+use limits::system::System;
+use limits::unfit::Unfit;
+use made_up::{Sort, made_up};
+use std::env;
+use task::{Task, Work};
+
+fn build_once(task: &Task, checksum: &mut Checksum) -> Result<(), Unfit> {
+    let system = made_up(task.days, task.rules, task.sort)?;
+    checksum.add_links(system.links());
+    checksum.add_totals(system.lightest());
+    checksum.add_totals(system.heaviest());
+    Ok(())
+}
+
+fn judge_once(system: &System, checksum: &mut Checksum) {
+    match judge(system) {
+        Ok(_) => checksum.add(1),
+        Err(chain) => checksum.add_links(chain.as_slice()),
+    }
+}
+
+// Where there is no solution, there is nothing to close.
+fn close_once(system: &System, checksum: &mut Checksum) {
+    match judge(system) {
+        Ok(agreed) => add_closure(&Closure::of(&agreed), checksum),
+        Err(chain) => checksum.add_links(chain.as_slice()),
+    }
+}
+
+// The smallest and the largest totals, and by how much the total can rise on each day.
+fn add_closure(closure: &Closure<'_>, checksum: &mut Checksum) {
+    checksum.add_totals(closure.smallest().as_slice());
+    checksum.add_totals(closure.largest().as_slice());
+    for before in 0..u8::MAX {
+        let Some(rise) = closure.rise(Mark(before), Mark(before + 1)) else {
+            break;
+        };
+        checksum.add(i32::from(rise.least));
+        checksum.add(i32::from(rise.most));
+    }
+}
+
+fn work(task: &Task) -> Result<Checksum, Unfit> {
+    let mut checksum = Checksum(0);
+    let system = made_up(task.days, task.rules, task.sort)?;
+    for _ in 0..task.times {
+        match task.work {
+            Work::Build => build_once(task, &mut checksum)?,
+            Work::Judge => judge_once(&system, &mut checksum),
+            Work::Close => close_once(&system, &mut checksum),
+        }
+    }
+    Ok(checksum)
+}
+
+fn run(rt: &HostRuntime, task: &Task) -> anyhow::Result<()> {
+    let checksum = work(task)?;
+    println!(rt; "{task}: {}", checksum.0)?;
+    Ok(())
+}
+
+fn small_run(rt: &HostRuntime) -> anyhow::Result<()> {
+    for sort in [Sort::Agreed, Sort::Blocked, Sort::Slow] {
+        for work in [Work::Build, Work::Judge, Work::Close] {
+            let task = Task {
+                days: 16,
+                rules: 64,
+                sort,
+                work,
+                times: 1,
+            };
+            run(rt, &task)?;
+        }
+    }
+    Ok(())
+}
+
+fn main(rt: HostRuntime) -> anyhow::Result<()> {
+    let words: Vec<String> = env::args(&rt)?.skip(1).collect(rt.alloc())?;
+    if words.is_empty() {
+        small_run(&rt)
+    } else {
+        run(&rt, &Task::read(&words)?)
+    }
+}
