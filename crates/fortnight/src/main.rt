@@ -1,5 +1,7 @@
-// A reviewer's fortnight: its rules, and rosters checked against them.
+// A reviewer's fortnight: its rules, rosters checked against them, and what their limits allow together.
 #![tactic(auto)]
+
+mod sums;
 
 use entry::refusal::Refusal;
 use kinds::collection::Collection;
@@ -8,6 +10,7 @@ use papers::Papers;
 use roster::check;
 use roster::finding::Finding;
 use std::io;
+use sums::tell_limits;
 
 // Ends a line that says what was asked: by which row it is refused, and why.
 fn tell(rt: &HostRuntime, refusal: Refusal) -> io::Result<()> {
@@ -100,7 +103,7 @@ fn withdraw(rt: &HostRuntime, book: &mut Book, number: u32) -> io::Result<()> {
 }
 
 // The rules of a fortnight, and rosters checked against them before and after the donor's rule is withdrawn.
-fn play(rt: &HostRuntime, days: &[Collection]) -> io::Result<()> {
+fn play(rt: &HostRuntime, days: &[Collection]) -> anyhow::Result<()> {
     use Papers::{Letters as L, Maps as M};
 
     let dense = [L, M, L, M, L, L, M, M, L, M].map(u8::from);
@@ -115,11 +118,25 @@ fn play(rt: &HostRuntime, days: &[Collection]) -> io::Result<()> {
     println!(rt; "\nThe donor takes the rule back, twice by mistake:")?;
     withdraw(rt, &mut book, 7)?;
     withdraw(rt, &mut book, 7)?;
-    tell_check(rt, days, &book, "The first roster", &dense)
+    tell_check(rt, days, &book, "The first roster", &dense)?;
+    add_up(rt, days, &mut book)
+}
+
+// The limits of the rules added up, with a rule more that blocks the plan and without it again.
+fn add_up(rt: &HostRuntime, days: &[Collection], book: &mut Book) -> anyhow::Result<()> {
+    println!(rt; "\nThe limits of the days and the rules are added up:")?;
+    tell_limits(rt, days, book)?;
+    tell_rule(
+        rt,
+        "None from day 5 to day 7, for another donor",
+        book.rule(days, 5, 7, 0, 0),
+    )?;
+    tell_limits(rt, days, book)?;
+    withdraw(rt, book, 8)?;
+    tell_limits(rt, days, book)
 }
 
 fn main(rt: HostRuntime) -> anyhow::Result<()> {
     let days = days()?;
-    play(&rt, &days)?;
-    Ok(())
+    play(&rt, &days)
 }
