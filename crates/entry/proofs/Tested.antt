@@ -3,7 +3,7 @@ use Rattle.std.proofs.Common.{◌≡◌, ◌≢◌, ◌↔◌, ℕ, ◌<◌, ◌
 use Rattle.std.proofs.lemmas.List.{get_or_past}
 use Rattle.std.proofs.lemmas.Bool.{iff_false, true_from_ne_false}
 use Rattle.std.proofs.lemmas.Bool.Decides.{Decides-below_or, Decides-and, Decides-not, Decides-like, Decides-ltb, Decides-eqb}
-use Rattle.entry.specs.Cells.{Meaning, weigh, held, NoGap}
+use Rattle.entry.specs.Cells.{Meaning, weigh, held, Holds, NoGap}
 use Rattle.entry.specs.Edits.{some, only, missing, gapless}
 
 -- some number below n passes, where one is as P says
@@ -21,6 +21,12 @@ module _ (m : Meaning) (long : length m ≡ 64) where
   decides_held p P each =
       Decides-like _ (λ f. (f.0, f.2.0, f.2.1)) (λ f. (f.0, held_below f.0 f.1, (f.1, f.2)))
       (decides_some _ (λ c. (held m c ≡ true) × P c) (λ c. Decides-and (held m c) (p c) (λ e. e, λ e. e) (each c)) 64)
+
+  -- some code is held
+  pub decides_holds : IsTrue (some (held m) 64) ↔ Holds m
+  decides_holds =
+      Decides-like _ (λ f. (f.0, f.2)) (λ f. (f.0, held_below f.0 f.1, f.1))
+      (decides_some (held m) (λ c. held m c ≡ true) (λ c. (λ e. e, λ e. e)) 64)
 
   -- c is held, and no other code is
   pub decides_only : (c : ℕ) → IsTrue (only m c) ↔ ((held m c ≡ true) × ((k : ℕ) → held m k ≡ true → k ≡ c))

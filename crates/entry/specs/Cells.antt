@@ -23,6 +23,10 @@ held m c = (slice_index_or m c vacant).held
 unfoldable pub cells : (ℕ → ℕ) → (ℕ → Bool) → Meaning
 cells weighs holds = map (λ c. record { weight = weighs c; held = holds c }) (range_with_len 0 64)
 
+-- a code is held
+abbrev pub Holds : Meaning → Type 0
+Holds m = (code : ℕ) × (held m code ≡ true)
+
 -- between the weights of two held codes, each weight is some held code's
 abbrev pub NoGap : Meaning → Type 0
 NoGap m =
