@@ -2,6 +2,7 @@ ghost use Rattle.std.specs.Prelude.{◌≡◌, ◌+◌, ◌-◌, ◌*◌, ◌<�
 ghost use Rattle.entry.specs.declared.refusal.Refusal.TheVariants.{BookFull};
 
 use crate::days::day_count;
+use crate::places::counted_from_one;
 use crate::rule::Rule;
 use bounded::Bounded;
 use entry::refusal::Refusal;
@@ -35,7 +36,7 @@ impl Book {
     ghost use Rattle.entry.specs.Refusals.{told};
     ghost use Rattle.ledger.specs.declared.call.Call.TheVariants as calls;
     ghost use Rattle.ledger.specs.Edits.{EditsBook};
-    ghost use Rattle.ledger.specs.Ledgers.{Kind, numbered, ranging, done, reply, after};
+    ghost use Rattle.ledger.specs.Ledgers.{Kind, numbered, ranging, done, reply, after, failing, ends_within};
     ghost use Rattle.ledger.specs.Rules.{Within, Bounds, windows, stands, withdrawn};
 
     // The book of a new plan.
@@ -55,6 +56,15 @@ impl Book {
         ensures room { length result.now ≤ 512 }
     {
         self.rules.as_slice()
+    }
+
+    // The smallest number of a rule in force that ends past the days.
+    pub fn past_days(&self, days: u32) -> Option<u32>
+        ensures answer { result ≡ failing (ends_within days) self.now }
+        ensures bounds { Bounds self.now }
+    {
+        let rules = self.rules();
+        counted_from_one(rules.iter().position(|rule| !rule.ends_within(days)))
     }
 
     // Makes one rule, in force at once. The answer is its number.

@@ -6,6 +6,9 @@ ghost use Rattle.ledger.specs.Edits.{CountsDays, EditsDay, OnDay};
 use entry::refusal::Refusal;
 use entry::traits::Entry;
 
+// A plan has at most so many days.
+pub const DAYS: usize = 128;
+
 // Takes a code out of the entry of one day.
 pub fn strike<E: Entry>(entries: &mut [E], day: u32, code: u32) -> Result<(), Refusal>
     ensures { EditsDay E.Entry (calls.Strike day code) day entries.old result entries.new }
@@ -45,7 +48,7 @@ pub fn day_count<E: Entry>(entries: &[E]) -> Result<u32, Refusal>
     ensures { CountsDays E.meaning entries.now result }
 {
     let days = entries.len();
-    if days > 128 {
+    if days > DAYS {
         return Err(Refusal::TooManyDays);
     }
     Ok(days as u32)

@@ -4,4 +4,5 @@
 pub mod book;
 pub mod call;
 pub mod days;
+pub mod places;
 pub mod rule;

@@ -1,4 +1,5 @@
 ghost use Rattle.std.specs.Prelude.{◌≡◌, ◌+◌, ◌-◌, ◌*◌, ◌||◌, nat_lt};
+ghost use Rattle.ledger.specs.Ledgers.{ends_within};
 ghost use Rattle.ledger.specs.Rules.{made, ended};
 
 use entry::traits::Entry;
@@ -36,6 +37,13 @@ impl Rule {
             in_force: false,
             ..self
         }
+    }
+
+    // Whether the rule is withdrawn, or ends within so many days.
+    pub fn ends_within(self, days: u32) -> bool
+        ensures { result ≡ ends_within days self }
+    {
+        !self.in_force || self.last <= days
     }
 
     // Whether least is above most, or most above what the days can weigh. The product may need 64 bits.

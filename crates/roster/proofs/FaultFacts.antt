@@ -12,16 +12,11 @@ use Rattle.ledger.specs.declared.rule.Rule.{Rule}
 use Rattle.ledger.specs.Ledgers.{Ledger, failing, ends_within}
 use Rattle.ledger.specs.Rosters.{Roster, stretch, holds_its_code, keeps}
 use Rattle.ledger.specs.Rules.{no_rule, numbered, Bounds, Within, Book}
+use Rattle.ledger.proofs.Firsts.{none_failing}
 use Rattle.roster.specs.declared.finding.Finding.TheVariants as findings
 use Rattle.roster.specs.Findings.{FirstFailing, Found}
 
 module _ {X : Type 0} (test : X → Bool) where
-  -- none fails
-  pub none_failing : (xs : List X) → failing test xs ≡ None → AllPass test xs
-  none_failing xs e k d lt =
-      let long : length xs ≤ prefix_len test xs = grind (arith, common_steps) in
-      prefix_len_passes test xs k d (omega arith)
-
   -- the first that fails, where one does
   pub first_failing : (xs : List X) (n : ℕ) → failing test xs ≡ Some n → FirstFailing test xs n
   first_failing xs n e =

@@ -1,3 +1,2 @@
 pub mod FaultFacts
-pub mod Firsts
 pub mod Meanings

@@ -3,10 +3,10 @@ ghost use Rattle.std.specs.List.{zip};
 ghost use Rattle.ledger.specs.Ledgers.{failing, ends_within};
 
 use crate::finding::Finding;
-use crate::places::counted_from_one;
 use crate::stretches::{stretch, weight_of};
 use entry::traits::Entry;
 use ledger::book::Book;
+use ledger::places::counted_from_one;
 use ledger::rule::Rule;
 
 // A plan, whose rules in force end within its days, and for each of the days a code.

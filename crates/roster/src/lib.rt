@@ -3,8 +3,6 @@
 
 mod assignment;
 pub mod finding;
-mod past_days;
-mod places;
 mod stretches;
 
 ghost use Rattle.ledger.specs.Ledgers.{ledger};
@@ -12,7 +10,6 @@ ghost use Rattle.roster.specs.Findings.{Checks};
 
 use crate::assignment::Assignment;
 use crate::finding::Finding;
-use crate::past_days::past_days;
 use entry::refusal::Refusal;
 use entry::traits::Entry;
 use ledger::book::Book;
@@ -27,7 +24,7 @@ pub fn check<'r, E: Entry>(
     ensures { Checks (ledger E.Entry entries.now book.now) roster.now result }
 {
     let days = day_count(entries)?;
-    if let Some(number) = past_days(book, days) {
+    if let Some(number) = book.past_days(days) {
         return Err(Refusal::RulePastDays(number));
     }
     if roster.len() != entries.len() {

@@ -5,7 +5,7 @@ use Rattle.std.proofs.lemmas.Iterator.Search.{position_from_yields_List}
 use borrow.Author.Tests.{tests}
 use Rattle.ledger.specs.Rosters.{keeps}
 use Rattle.roster.proofs.FaultFacts.{rules_within}
-use Rattle.roster.proofs.Firsts.{failing_from_position}
+use Rattle.ledger.proofs.Firsts.{failing_from_position}
 use Rattle.roster.proofs.assignment.Assignment.first_broken.Goals as goal
 
 pub position-requires-clause-callable : goal.position-requires-clause-callable
@@ -20,7 +20,8 @@ pub returns : goal.returns
 returns g c =
     let plan = c.args.self.now in
     let test = keeps (map g.E.Entry.meaning plan.entries.now) plan.roster.now in
+    let few = rw c.rules.ensures.rules at c.rules.ensures.room in
     c.counted_from_one.ensures
-    ∙ failing_from_position test c.args.self.now.book.now c.position.result
+    ∙ failing_from_position test c.args.self.now.book.now c.position.result (omega arith)
     (position_from_yields_List (λ rule. not (test rule)) _ _ _ c.position.ensures.ran (YieldsList-from_slice c.args.self.now.book.now cc)
     (λ x b q k. search (rules, tests)))
