@@ -5,26 +5,31 @@ use Rattle.std.proofs.lemmas.Int.{ints}
 use Rattle.std.proofs.lemmas.List.Elements.{All-nil, All-cons, All-head, All-tail, All-contains, All-weaker}
 use Rattle.limits.specs.declared.link.Link.{Link}
 use Rattle.limits.specs.Links.{Totals, Keeps, Solves}
-use Rattle.limits.specs.Systems.{System, days, Within, at_mark}
-use Rattle.chains.specs.Chains.{Leads, sum, Blocks}
+use Rattle.limits.specs.Systems.{System, days, marks, Within, at_mark}
+use Rattle.chains.specs.Chains.{Leads, sum, Sound, Blocks}
 use Rattle.chains.specs.Layers.{layer_of, Layered, FallsFrom}
 use Rattle.chains.specs.Walks.{Descends, ClosedPart}
 
 -- ---- what blocks a system rules out every solution
--- along a chain a solution rises by what the links allow together at the most
-leads_bound : (links : List Link) (y : Totals) → Solves links y → (u : ℕ) (chain : List Link) (v : ℕ)
-    → All (Contains links) chain → Leads u chain v → y v ≤ℤ (y u +ℤ sum chain)
-leads_bound links y solves u [] v known e = let same : y u ≡ y v = ap y e in omega (arith, ints)
-leads_bound links y solves u (l ∷ chain) v known (e, more) =
+-- along a chain whose links they keep, totals rise by what these allow together at the most
+leads_bound : (y : Totals) (u : ℕ) (chain : List Link) (v : ℕ) → All (Keeps y) chain → Leads u chain v → y v ≤ℤ (y u +ℤ sum chain)
+leads_bound y u [] v keeps e = let same : y u ≡ y v = ap y e in omega (arith, ints)
+leads_bound y u (l ∷ chain) v keeps (e, more) =
     let same : y l.from.0 ≡ y u = ap y e in
-    let keeps = All-contains (Keeps y) links l solves (All-head (Contains links) l chain known) in
-    let rest = leads_bound links y solves l.to.0 chain v (All-tail (Contains links) l chain known) more in
+    let first = All-head (Keeps y) l chain keeps in
+    let rest = leads_bound y l.to.0 chain v (All-tail (Keeps y) l chain keeps) more in
     omega (arith, ints)
 
--- so none rises round a closed chain whose sum is below zero
+-- so no totals keep every known link where a closed chain of such links has a sum below zero
+pub sound_excludes : (Known : Link → Type 0) (most : ℕ) (chain : List Link) → Sound Known most chain
+    → (y : Totals) → ((k : Link) → Known k → Keeps y k) → ⊥
+sound_excludes Known most chain sound y keeps =
+    let all = All-weaker Known (Keeps y) keeps chain sound.known in
+    omega (arith, ints, leads_bound y sound.mark chain sound.mark all sound.closed, sound.negative)
+
 pub blocks_all : (s : System) (chain : List Link) → Blocks s chain → (y : Totals) → Solves s.links y → ⊥
 blocks_all s chain blocks y solves =
-    omega (arith, ints, leads_bound s.links y solves blocks.mark chain blocks.mark blocks.known blocks.closed, blocks.negative)
+    sound_excludes (Contains s.links) (marks s) chain blocks y (λ k. All-contains (Keeps y) s.links k solves)
 
 -- ---- chains that descend
 module _ (links : List Link) (layers : List (List ℤ)) where

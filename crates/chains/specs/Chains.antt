@@ -13,10 +13,14 @@ abbrev pub sum : List Link → ℤ
 sum [] = pos 0
 sum (l ∷ chain) = l.allowance +ℤ sum chain
 
--- a closed chain of the system's links, no more of them than there are marks, with a sum below zero
-pub record Blocks (s : System) (chain : List Link) : Type 0 where
-  pub known : All (Contains s.links) chain
+-- a closed chain of known links, at most so many of them, with a sum below zero
+pub record Sound (Known : Link → Type 0) (most : ℕ) (chain : List Link) : Type 0 where
+  pub known : All Known chain
   pub mark : ℕ
   pub closed : Leads mark chain mark
-  pub few : length chain ≤ marks s
+  pub few : length chain ≤ most
   pub negative : sum chain <ℤ pos 0
+
+-- of the system's links, and no more of them than there are marks
+abbrev pub Blocks : System → List Link → Type 0
+Blocks s = Sound (Contains s.links) (marks s)
