@@ -1,0 +1,2 @@
+pub mod BuildFacts
+pub mod EmptyFacts

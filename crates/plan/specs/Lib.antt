@@ -1,0 +1,2 @@
+pub mod Tables
+pub mod Building
