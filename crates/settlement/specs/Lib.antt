@@ -1,0 +1,3 @@
+pub mod Settlements
+pub mod Questions
+pub mod Choices
