@@ -4,11 +4,11 @@ use Rattle.std.proofs.Common.{sym, ◌∙◌, subst, inl, inr, arith, length-set
 use Rattle.std.proofs.lemmas.List.{set_past}
 use Rattle.std.proofs.lemmas.Bool.{cases_eq, cases_lt}
 use Rattle.std.proofs.lemmas.Bool.Decides.{nat_tests}
-use Rattle.entry.specs.Cells.{Meaning, held, weigh, Sized}
+use Rattle.entry.specs.Cells.{Meaning, Holds, held, weigh, Sized}
 use Rattle.entry.specs.Edits.{only, gapless, marked, struck, granted}
 use Rattle.entry.proofs.CellFacts.{weigh-marked, held-marked_other, granted_stays}
 use Rattle.entry.proofs.Tested.{decides_some, decides_gapless}
-use Rattle.course.specs.Runs.{Holds, Whole}
+use Rattle.course.specs.Runs.{Whole}
 
 module _ (m : Meaning) (c : ℕ) where
   -- an edit that passes the test of the law of weights keeps it

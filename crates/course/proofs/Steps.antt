@@ -7,7 +7,7 @@ use Rattle.std.proofs.lemmas.List.{get_or-set_other}
 use Rattle.std.proofs.lemmas.Bool.{cases_eq, not-false}
 use Rattle.std.proofs.lemmas.Bool.Decides.{nat_tests}
 use Rattle.std.proofs.lemmas.Grind.{get_or-set_at}
-use Rattle.entry.specs.Cells.{weigh}
+use Rattle.entry.specs.Cells.{weigh, Holds}
 use Rattle.entry.specs.Edits.{gapless, marked}
 use Rattle.entry.specs.Refusals.{Row, Rows, topmost, answered, unless}
 use Rattle.entry.proofs.CellFacts.{weigh-marked}
@@ -16,7 +16,7 @@ use Rattle.ledger.specs.declared.call.Call.{Call}
 use Rattle.ledger.specs.declared.call.Call.TheVariants.{Rule, Slide, Withdraw, Strike, Grant, Settle}
 use Rattle.ledger.specs.Ledgers.{Ledger, Answer, done, settled, day_of, window_count, no_such_day, rows, answer, with_rules, with_day, worked, reply, after}
 use Rattle.ledger.specs.Rules.{made, windows, numbered, stands, ended, withdrawn}
-use Rattle.course.specs.Runs.{Edits, given_by, is_settle, Holds, Whole, FitsPlan, Good}
+use Rattle.course.specs.Runs.{Edits, given_by, is_settle, Whole, FitsPlan, Good}
 use Rattle.course.proofs.RuleFacts.{windows_fit, given_range, none_given, stands-append, stands-withdrawn}
 use Rattle.course.proofs.DayFacts.{marked_whole, struck_holds, granted_holds}
 

@@ -1,7 +1,7 @@
 -- What a list of calls makes of a plan and what it keeps, whichever of the calls are refused.
 use Rattle.std.specs.Prelude.{◌≡◌, ℕ, ◌+◌, ◌-◌, ◌<◌, ◌≤◌, Bool, true, false, if◌then◌else◌, not, ◌&&◌, List, [], ◌∷◌, ◌++◌, length, is_ok, Some, None, Ok, Err, Result}
 use Rattle.std.specs.List.{range_with_len, All}
-use Rattle.entry.specs.Cells.{Meaning, held, weigh, NoGap, Sized}
+use Rattle.entry.specs.Cells.{Meaning, weigh, Holds, NoGap, Sized}
 use Rattle.entry.specs.Refusals.{Row}
 use Rattle.ledger.specs.declared.rule.Rule as Declared
 use Rattle.ledger.specs.declared.call.Call.{Call}
@@ -45,10 +45,6 @@ abbrev pub taken : Ledger → List Call → List Call
 taken l [] = []
 taken l (call ∷ calls) =
     if is_ok (reply l call) && not (is_settle call) then call ∷ taken (after l call) calls else taken (after l call) calls
-
--- a code is held
-abbrev pub Holds : Meaning → Type 0
-Holds m = (code : ℕ) × (held m code ≡ true)
 
 -- 64 cells, and no gap in the weights
 abbrev pub Whole : Meaning → Type 0
