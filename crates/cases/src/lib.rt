@@ -5,4 +5,8 @@ pub mod definitions;
 #[cfg(test)]
 mod ledgers;
 #[cfg(test)]
+mod plans;
+#[cfg(test)]
 mod rosters;
+#[cfg(test)]
+mod settlements;

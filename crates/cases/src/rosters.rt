@@ -1,17 +1,11 @@
 use crate::definitions::lawful_of_three;
+use crate::plans::seven_days;
 use entry::refusal::Refusal;
 use kinds::duty::Duty;
 use ledger::book::Book;
 use roster::check;
 use roster::finding::Finding;
 use std::test::Fail;
-
-fn seven_days() -> Result<[Duty; 7], Refusal> {
-    let either = Duty::new(&[0, 1])?;
-    let on = Duty::new(&[1])?;
-    let off = Duty::new(&[0])?;
-    Ok([on, on, either, either, either, off, either])
-}
 
 #[test]
 fn first_faults(rt: HostRuntime) -> Result<(), Fail> {
