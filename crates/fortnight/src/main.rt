@@ -1,24 +1,27 @@
-// A reviewer's fortnight: its rules, rosters checked against them, and what their limits allow together.
+// A reviewer's fortnight: its rules, rosters checked against them, and what it is settled to.
 #![tactic(auto)]
 
-mod sums;
+mod again;
+mod rosters;
+mod settling;
 
+use again::tell_again;
 use entry::refusal::Refusal;
 use kinds::collection::Collection;
 use ledger::book::Book;
+use ledger::days;
 use papers::Papers;
-use roster::check;
-use roster::finding::Finding;
+use rosters::tell_check;
+use settling::tell_settlement;
 use std::io;
-use sums::tell_limits;
 
 // Ends a line that says what was asked: by which row it is refused, and why.
-fn tell(rt: &HostRuntime, refusal: Refusal) -> io::Result<()> {
+pub(crate) fn tell(rt: &HostRuntime, refusal: Refusal) -> io::Result<()> {
     println!(rt; "refused ({}), {refusal}.", refusal.number())
 }
 
 // Ten working days. The closed letters count; on days 4 and 8 they stay in the safe.
-fn days() -> Result<[Collection; 10], Refusal> {
+pub(crate) fn granted() -> Result<[Collection; 10], Refusal> {
     let letters = u32::from(Papers::Letters);
     let maps = u32::from(Papers::Maps);
     let both = Collection::new(&[letters, maps], &[letters])?;
@@ -58,42 +61,6 @@ fn make_rules(rt: &HostRuntime, days: &[Collection], book: &mut Book) -> io::Res
     tell_rule(rt, "Three from day 1 to day 2", book.rule(days, 1, 2, 3, 3))
 }
 
-fn print_codes(rt: &HostRuntime, codes: &[u8]) -> io::Result<()> {
-    for code in codes {
-        match Papers::try_from(u32::from(*code)) {
-            Ok(papers) => print!(rt; " {papers}")?,
-            Err(unknown) => print!(rt; " {}", unknown.code)?,
-        }
-    }
-    println!(rt; "")
-}
-
-fn tell_check(
-    rt: &HostRuntime,
-    days: &[Collection],
-    book: &Book,
-    name: &str,
-    roster: &[u8],
-) -> io::Result<()> {
-    print!(rt; "  {name}: ")?;
-    match check(days, book, roster) {
-        Err(refusal) => tell(rt, refusal),
-        Ok(Finding::Lawful) => println!(rt; "lawful."),
-        Ok(Finding::NotHeld { day }) => println!(rt; "day {day} has what is not open then."),
-        Ok(
-            Finding::Broken {
-                rule,
-                first,
-                last,
-                stretch,
-            },
-        ) => {
-            print!(rt; "breaks rule {rule} from day {first} to day {last}:")?;
-            print_codes(rt, stretch)
-        }
-    }
-}
-
 fn withdraw(rt: &HostRuntime, book: &mut Book, number: u32) -> io::Result<()> {
     print!(rt; "  Rule {number}: ")?;
     match book.withdraw(number) {
@@ -102,41 +69,49 @@ fn withdraw(rt: &HostRuntime, book: &mut Book, number: u32) -> io::Result<()> {
     }
 }
 
-// The rules of a fortnight, and rosters checked against them before and after the donor's rule is withdrawn.
-fn play(rt: &HostRuntime, days: &[Collection]) -> anyhow::Result<()> {
+// Three rosters are checked, and the first once more when the donor's rule is withdrawn.
+fn play_checks(rt: &HostRuntime, days: &[Collection], book: &mut Book) -> io::Result<()> {
     use Papers::{Letters as L, Maps as M};
 
     let dense = [L, M, L, M, L, L, M, M, L, M].map(u8::from);
     let spread = [L, L, M, M, L, M, L, M, L, M].map(u8::from);
     let locked = [L, L, M, L, M, M, L, M, L, M].map(u8::from);
-    let mut book = Book::new();
-    make_rules(rt, days, &mut book)?;
     println!(rt; "\nThree rosters are checked:")?;
-    tell_check(rt, days, &book, "The first", &dense)?;
-    tell_check(rt, days, &book, "The second", &spread)?;
-    tell_check(rt, days, &book, "The third", &locked)?;
+    tell_check(rt, days, book, "The first", &dense)?;
+    tell_check(rt, days, book, "The second", &spread)?;
+    tell_check(rt, days, book, "The third", &locked)?;
     println!(rt; "\nThe donor takes the rule back, twice by mistake:")?;
-    withdraw(rt, &mut book, 7)?;
-    withdraw(rt, &mut book, 7)?;
-    tell_check(rt, days, &book, "The first roster", &dense)?;
-    add_up(rt, days, &mut book)
+    withdraw(rt, book, 7)?;
+    withdraw(rt, book, 7)?;
+    tell_check(rt, days, book, "The first roster", &dense)
 }
 
-// The limits of the rules added up, with a rule more that blocks the plan and without it again.
-fn add_up(rt: &HostRuntime, days: &[Collection], book: &mut Book) -> anyhow::Result<()> {
-    println!(rt; "\nThe limits of the days and the rules are added up:")?;
-    tell_limits(rt, days, book)?;
-    tell_rule(
-        rt,
-        "None from day 5 to day 7, for another donor",
-        book.rule(days, 5, 7, 0, 0),
-    )?;
-    tell_limits(rt, days, book)?;
+// The fortnight is settled, then with a rule that blocks it, without it again, and with the letters closed on a day.
+fn play_settling(
+    rt: &HostRuntime,
+    days: &mut [Collection; 10],
+    book: &mut Book,
+) -> anyhow::Result<()> {
+    println!(rt; "\nThe fortnight is settled:")?;
+    tell_settlement(rt, days, book)?;
+    println!(rt; "\nAnother donor asks for more than there is:")?;
+    tell_rule(rt, "None from day 5 to day 7", book.rule(days, 5, 7, 0, 0))?;
+    tell_settlement(rt, days, book)?;
+    println!(rt; "\nThe other donor takes the rule back:")?;
     withdraw(rt, book, 8)?;
-    tell_limits(rt, days, book)
+    tell_settlement(rt, days, book)?;
+    println!(rt; "\nThe letters are closed on days 2 and 3, and the fortnight is settled anew:")?;
+    for day in [2, 3] {
+        days::strike(days, day, u32::from(Papers::Letters))?;
+    }
+    tell_settlement(rt, days, book)
 }
 
 fn main(rt: HostRuntime) -> anyhow::Result<()> {
-    let days = days()?;
-    play(&rt, &days)
+    let mut days = granted()?;
+    let mut book = Book::new();
+    make_rules(&rt, &days, &mut book)?;
+    play_checks(&rt, &days, &mut book)?;
+    play_settling(&rt, &mut days, &mut book)?;
+    tell_again(&rt)
 }
