@@ -1,6 +1,6 @@
-//! Judging and closing written plainly in Rust: the algorithm of the crates `chains` and `closure`
-//! without contracts or proofs, over the same made-up systems. It takes the arguments of the program
-//! `measure` and prints what that prints.
+//! Judging, closing and settling written plainly in Rust: the algorithm of the crates `chains`,
+//! `closure`, `plan` and `settlement` without contracts or proofs, over the same made-up plans. It takes
+//! the arguments of the program `measure` and prints what that prints.
 
 use std::env;
 use std::error::Error;
@@ -9,13 +9,163 @@ use std::str::FromStr;
 
 const DAYS: usize = 128;
 const MARKS: usize = DAYS + 1;
+const RULES: usize = 512;
 const LINKS: usize = 1280;
+const CODES: u32 = 64;
 const TOP: u32 = 63;
 const LARGEST: u32 = 8064;
 
 /// How far a day or a rule strays from the hidden weights at the most.
 const DAY_LEEWAY: u32 = 15;
 const RULE_LEEWAY: u32 = 8;
+
+/// Why a call is declined.
+#[derive(Debug)]
+enum Refusal {
+    TooManyDays,
+    EmptyDay(u32),
+    BadWindow,
+    BadCount,
+    BookFull,
+    RulePastDays(u32),
+}
+
+impl Refusal {
+    /// The row's number in the table of refusals.
+    fn number(&self) -> u32 {
+        match self {
+            Refusal::TooManyDays => 1,
+            Refusal::EmptyDay(_) => 2,
+            Refusal::BadWindow => 4,
+            Refusal::BadCount => 5,
+            Refusal::BookFull => 6,
+            Refusal::RulePastDays(_) => 8,
+        }
+    }
+}
+
+impl fmt::Display for Refusal {
+    fn fmt(&self, f: &mut fmt::Formatter) -> fmt::Result {
+        match self {
+            Refusal::TooManyDays => f.write_str("a plan has 128 days at the most"),
+            Refusal::EmptyDay(day) => write!(f, "day {day} holds no code"),
+            Refusal::BadWindow => f.write_str("the plan has no such days"),
+            Refusal::BadCount => f.write_str("no days can add up to that"),
+            Refusal::BookFull => f.write_str("the book has no room for that"),
+            Refusal::RulePastDays(rule) => write!(f, "rule {rule} ends past the days"),
+        }
+    }
+}
+
+impl Error for Refusal {}
+
+/// What one day of a plan may hold.
+trait Entry {
+    /// No code of the kind weighs more.
+    const TOP: u32;
+
+    fn holds(&self, code: u32) -> bool;
+
+    fn weight(&self, code: u32) -> u32;
+
+    /// What the lightest held code weighs.
+    fn lightest(&self) -> u32;
+
+    /// What the heaviest held code weighs.
+    fn heaviest(&self) -> u32;
+}
+
+/// The codes from a low one to a high one. A code weighs its number.
+struct Boxes {
+    low: u8,
+    high: u8,
+}
+
+impl Entry for Boxes {
+    const TOP: u32 = TOP;
+
+    fn holds(&self, code: u32) -> bool {
+        (u32::from(self.low)..=u32::from(self.high)).contains(&code)
+    }
+
+    fn weight(&self, code: u32) -> u32 {
+        if code < CODES {
+            code
+        } else {
+            0
+        }
+    }
+
+    fn lightest(&self) -> u32 {
+        if self.low <= self.high {
+            u32::from(self.low)
+        } else {
+            0
+        }
+    }
+
+    fn heaviest(&self) -> u32 {
+        if self.low <= self.high {
+            u32::from(self.high)
+        } else {
+            0
+        }
+    }
+}
+
+struct Rule {
+    first: u32,
+    last: u32,
+    least: u32,
+    most: u32,
+    in_force: bool,
+}
+
+/// The rules made so far. Their numbers count from 1.
+struct Book {
+    rules: Vec<Rule>,
+}
+
+impl Book {
+    fn new() -> Book {
+        Book { rules: Vec::new() }
+    }
+
+    fn rule<E: Entry>(
+        &mut self,
+        entries: &[E],
+        first: u32,
+        last: u32,
+        least: u32,
+        most: u32,
+    ) -> Result<(), Refusal> {
+        let days = day_count(entries)?;
+        if first == 0 || last < first || days < last {
+            return Err(Refusal::BadWindow);
+        }
+        if most < least || E::TOP * (last - first + 1) < most {
+            return Err(Refusal::BadCount);
+        }
+        if self.rules.len() == RULES {
+            return Err(Refusal::BookFull);
+        }
+        self.rules.push(Rule {
+            first,
+            last,
+            least,
+            most,
+            in_force: true,
+        });
+        Ok(())
+    }
+}
+
+fn day_count<E>(entries: &[E]) -> Result<u32, Refusal> {
+    if entries.len() > DAYS {
+        return Err(Refusal::TooManyDays);
+    }
+    Ok(entries.len() as u32)
+}
 
 #[derive(Clone, Copy)]
 enum Limit {
@@ -43,20 +193,19 @@ struct System {
 #[derive(Debug)]
 struct Unfit;
 
-impl fmt::Display for Unfit {
-    fn fmt(&self, f: &mut fmt::Formatter) -> fmt::Result {
-        f.write_str("a system has no place for that")
-    }
+/// The total at mark 0, with room for all others.
+fn at_mark_0() -> Vec<i16> {
+    let mut totals = Vec::with_capacity(MARKS);
+    totals.push(0);
+    totals
 }
-
-impl Error for Unfit {}
 
 impl System {
     fn new() -> System {
         System {
             links: Vec::with_capacity(LINKS),
-            lightest: vec![0],
-            heaviest: vec![0],
+            lightest: at_mark_0(),
+            heaviest: at_mark_0(),
         }
     }
 
@@ -117,6 +266,37 @@ impl System {
     }
 }
 
+/// The system of a plan's days and of its rules in force, where the plan can be settled.
+fn system_of<E: Entry>(entries: &[E], book: &Book) -> Result<System, Refusal> {
+    let days = day_count(entries)?;
+    if let Some(index) = entries.iter().position(|entry| !holds_code(entry)) {
+        return Err(Refusal::EmptyDay(index as u32 + 1));
+    }
+    let ends_late = |rule: &Rule| rule.in_force && rule.last > days;
+    if let Some(index) = book.rules.iter().position(ends_late) {
+        return Err(Refusal::RulePastDays(index as u32 + 1));
+    }
+    let system = system_of_sound(entries, &book.rules);
+    Ok(system.expect("the days and the rules of a plan fit"))
+}
+
+fn holds_code<E: Entry>(entry: &E) -> bool {
+    (0..CODES).any(|code| entry.holds(code))
+}
+
+fn system_of_sound<E: Entry>(entries: &[E], rules: &[Rule]) -> Result<System, Unfit> {
+    let mut system = System::new();
+    for entry in entries {
+        system.add_day(entry.lightest(), entry.heaviest())?;
+    }
+    for (number, rule) in (1..).zip(rules) {
+        if rule.in_force {
+            system.add_rule(number, rule.first, rule.last, rule.least, rule.most)?;
+        }
+    }
+    Ok(system)
+}
+
 /// For each mark, a total: in the first layer that of the lightest days, and in each later one the
 /// least that a link into the mark makes of the layer before.
 type Layer = [i32; MARKS];
@@ -124,7 +304,8 @@ type Layer = [i32; MARKS];
 /// A closed chain whose sum is below 0, if there is one.
 fn judge(system: &System) -> Result<(), Vec<Link>> {
     let marks = system.marks();
-    let mut layers = vec![lightest_totals(system)];
+    let mut layers = Vec::with_capacity(marks + 1);
+    layers.push(lightest_totals(system));
     for k in 0..marks {
         let next = lowered(&system.links, &layers[k]);
         if next == layers[k] {
@@ -265,6 +446,74 @@ fn lower(row: &mut Row, beside: &Row, first: i16) {
     }
 }
 
+/// What an agreed plan allows: the possible codes of each day, and the lawful rosters with the least and
+/// the most weight.
+struct Agreement {
+    possible: Vec<u64>,
+    lean: Vec<u8>,
+    full: Vec<u8>,
+}
+
+enum Verdict {
+    Agreed(Agreement),
+    Blocked(Vec<Link>),
+    Refused(Refusal),
+}
+
+fn settle<E: Entry>(entries: &[E], book: &Book) -> Verdict {
+    match system_of(entries, book) {
+        Err(refusal) => Verdict::Refused(refusal),
+        Ok(system) => match judge(&system) {
+            Err(chain) => Verdict::Blocked(chain),
+            Ok(()) => Verdict::Agreed(Agreement::of(entries, &Closure::of(&system))),
+        },
+    }
+}
+
+impl Agreement {
+    fn of<E: Entry>(entries: &[E], closure: &Closure) -> Agreement {
+        Agreement {
+            possible: possible_codes(entries, closure),
+            lean: roster_of(entries, &closure.smallest()),
+            full: roster_of(entries, closure.largest()),
+        }
+    }
+}
+
+/// For each day the held codes whose weight is one of its rises: bit c stands for code c.
+fn possible_codes<E: Entry>(entries: &[E], closure: &Closure) -> Vec<u64> {
+    let sets = entries.iter().enumerate().map(|(before, entry)| {
+        let rise = closure.rise(before, before + 1);
+        rise.map_or(0, |rise| codes_within(entry, rise))
+    });
+    sets.collect()
+}
+
+fn codes_within<E: Entry>(entry: &E, rise: Rise) -> u64 {
+    let mut set = 0;
+    for code in 0..CODES {
+        let weight = entry.weight(code) as i16;
+        if entry.holds(code) && rise.least <= weight && weight <= rise.most {
+            set |= 1 << code;
+        }
+    }
+    set
+}
+
+/// On each day the smallest held code that weighs what the totals rise by.
+fn roster_of<E: Entry>(entries: &[E], totals: &[i16]) -> Vec<u8> {
+    let rises = totals.windows(2).map(|pair| pair[1] - pair[0]);
+    let codes = entries.iter().zip(rises);
+    codes
+        .map(|(entry, rise)| smallest_of(entry, rise))
+        .collect()
+}
+
+fn smallest_of<E: Entry>(entry: &E, weight: i16) -> u8 {
+    let found = (0..CODES).find(|&code| entry.holds(code) && entry.weight(code) as i16 == weight);
+    found.expect("some held code has that weight") as u8
+}
+
 /// Numbers that look like chance, the same in every run.
 struct Draws(u32);
 
@@ -300,7 +549,7 @@ impl FromStr for Sort {
             "agreed" => Ok(Sort::Agreed),
             "blocked" => Ok(Sort::Blocked),
             "slow" => Ok(Sort::Slow),
-            _ => Err(format!("no sort of system: {word}")),
+            _ => Err(format!("no sort of plan: {word}")),
         }
     }
 }
@@ -315,11 +564,17 @@ impl fmt::Display for Sort {
     }
 }
 
-/// A system whose days and rules stand around hidden weights, which solve it unless it is blocked.
-fn made_up(days: u32, rules: u32, sort: Sort) -> Result<System, Unfit> {
+/// What can be settled: days, and the rules over them.
+struct Plan {
+    entries: Vec<Boxes>,
+    book: Book,
+}
+
+/// A plan whose days and rules stand around hidden weights, which solve it unless it is blocked.
+fn made_up(days: u32, rules: u32, sort: Sort) -> Result<Plan, Refusal> {
     let mut draws = Draws(days);
-    let mut system = System::new();
-    let totals = add_days(&mut system, &mut draws, days)?;
+    let (entries, totals) = made_up_days(&mut draws, days);
+    let mut book = Book::new();
     let total_at = |mark: u32| totals.get(mark as usize).copied().unwrap_or(0);
     for number in 1..=rules {
         let alone = sort == Sort::Slow && number <= days;
@@ -329,33 +584,36 @@ fn made_up(days: u32, rules: u32, sort: Sort) -> Result<System, Unfit> {
         } else {
             draws.window(days)
         };
+        let count = last - first + 1;
         let sum = total_at(last).saturating_sub(total_at(first - 1));
         let least = if alone {
             sum
         } else if blocks {
-            sum + (last - first + 1) * (DAY_LEEWAY + 1)
+            sum + count * (DAY_LEEWAY + 1)
         } else {
             draws.between(sum.saturating_sub(RULE_LEEWAY), sum.saturating_sub(1))
         };
         let most = sum.max(least) + draws.between(1, RULE_LEEWAY);
-        system.add_rule(number, first, last, least.min(LARGEST), most.min(LARGEST))?;
+        let largest = count * TOP;
+        book.rule(&entries, first, last, least.min(largest), most.min(largest))?;
     }
-    Ok(system)
+    Ok(Plan { entries, book })
 }
 
-/// The answer is the hidden total at each mark.
-fn add_days(system: &mut System, draws: &mut Draws, days: u32) -> Result<Vec<u32>, Unfit> {
+/// The days, and the hidden total at each mark.
+fn made_up_days(draws: &mut Draws, days: u32) -> (Vec<Boxes>, Vec<u32>) {
+    let mut entries = Vec::new();
     let mut total = 0;
     let mut totals = vec![total];
     for _ in 0..days {
         let weight = draws.between(0, TOP);
-        let lightest = draws.between(weight.saturating_sub(DAY_LEEWAY), weight);
-        let heaviest = draws.between(weight, (weight + DAY_LEEWAY).min(TOP));
-        system.add_day(lightest, heaviest)?;
+        let low = draws.between(weight.saturating_sub(DAY_LEEWAY), weight) as u8;
+        let high = draws.between(weight, (weight + DAY_LEEWAY).min(TOP)) as u8;
+        entries.push(Boxes { low, high });
         total += weight;
         totals.push(total);
     }
-    Ok(totals)
+    (entries, totals)
 }
 
 #[derive(Clone, Copy)]
@@ -364,6 +622,8 @@ enum Work {
     Judge,
     /// Judging too.
     Close,
+    /// Building the plan's system, judging and closing too.
+    Settle,
 }
 
 impl FromStr for Work {
@@ -374,6 +634,7 @@ impl FromStr for Work {
             "build" => Ok(Work::Build),
             "judge" => Ok(Work::Judge),
             "close" => Ok(Work::Close),
+            "settle" => Ok(Work::Settle),
             _ => Err(format!("no work: {word}")),
         }
     }
@@ -385,6 +646,7 @@ impl fmt::Display for Work {
             Work::Build => "build",
             Work::Judge => "judge",
             Work::Close => "close",
+            Work::Settle => "settle",
         })
     }
 }
@@ -416,6 +678,22 @@ impl Checksum {
             self.add(i32::from(link.from));
             self.add(i32::from(link.to));
             self.add(i32::from(link.allowance));
+        }
+    }
+
+    fn add_agreement(&mut self, agreement: &Agreement) {
+        for &set in &agreement.possible {
+            let smallest = (set != 0).then(|| set.trailing_zeros());
+            self.add(set.count_ones().cast_signed());
+            self.add(smallest.map_or(-1, u32::cast_signed));
+        }
+        self.add_roster(&agreement.lean);
+        self.add_roster(&agreement.full);
+    }
+
+    fn add_roster(&mut self, roster: &[u8]) {
+        for &code in roster {
+            self.add(i32::from(code));
         }
     }
 
@@ -455,30 +733,24 @@ impl Task {
         })
     }
 
-    fn print(&self) -> Result<(), Unfit> {
+    fn print(&self) -> Result<(), Refusal> {
         println!("{self}: {}", self.work()?.0);
         Ok(())
     }
 
-    fn work(&self) -> Result<Checksum, Unfit> {
+    fn work(&self) -> Result<Checksum, Refusal> {
         let mut checksum = Checksum(0);
-        let system = made_up(self.days, self.rules, self.sort)?;
+        let plan = made_up(self.days, self.rules, self.sort)?;
+        let system = system_of(&plan.entries, &plan.book)?;
         for _ in 0..self.times {
             match self.work {
-                Work::Build => self.build_once(&mut checksum)?,
+                Work::Build => build_once(&plan, &mut checksum)?,
                 Work::Judge => judge_once(&system, &mut checksum),
                 Work::Close => close_once(&system, &mut checksum),
+                Work::Settle => settle_once(&plan, &mut checksum),
             }
         }
         Ok(checksum)
-    }
-
-    fn build_once(&self, checksum: &mut Checksum) -> Result<(), Unfit> {
-        let system = made_up(self.days, self.rules, self.sort)?;
-        checksum.add_links(&system.links);
-        checksum.add_totals(&system.lightest);
-        checksum.add_totals(&system.heaviest);
-        Ok(())
     }
 }
 
@@ -498,6 +770,14 @@ impl fmt::Display for Task {
     }
 }
 
+fn build_once(plan: &Plan, checksum: &mut Checksum) -> Result<(), Refusal> {
+    let system = system_of(&plan.entries, &plan.book)?;
+    checksum.add_links(&system.links);
+    checksum.add_totals(&system.lightest);
+    checksum.add_totals(&system.heaviest);
+    Ok(())
+}
+
 fn judge_once(system: &System, checksum: &mut Checksum) {
     match judge(system) {
         Ok(()) => checksum.add(1),
@@ -513,9 +793,17 @@ fn close_once(system: &System, checksum: &mut Checksum) {
     }
 }
 
-fn small_run() -> Result<(), Unfit> {
+fn settle_once(plan: &Plan, checksum: &mut Checksum) {
+    match settle(&plan.entries, &plan.book) {
+        Verdict::Agreed(agreement) => checksum.add_agreement(&agreement),
+        Verdict::Blocked(chain) => checksum.add_links(&chain),
+        Verdict::Refused(refusal) => checksum.add(refusal.number().cast_signed()),
+    }
+}
+
+fn small_run() -> Result<(), Refusal> {
     for sort in [Sort::Agreed, Sort::Blocked, Sort::Slow] {
-        for work in [Work::Build, Work::Judge, Work::Close] {
+        for work in [Work::Build, Work::Judge, Work::Close, Work::Settle] {
             Task {
                 days: 16,
                 rules: 64,

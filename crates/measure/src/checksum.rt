@@ -1,3 +1,4 @@
+use codes::set::CodeSet;
 use limits::link::{Limit, Link};
 
 // A number that depends on all numbers added and on their order.
@@ -12,6 +13,20 @@ impl Checksum {
     pub(crate) fn add_totals(&mut self, totals: &[i16]) {
         for total in totals {
             self.add(i32::from(*total));
+        }
+    }
+
+    // How many codes each set has, and the smallest of them.
+    pub(crate) fn add_sets(&mut self, sets: &[CodeSet]) {
+        for set in sets {
+            self.add(set.len().cast_signed());
+            self.add(set.smallest().map_or(-1, u32::cast_signed));
+        }
+    }
+
+    pub(crate) fn add_roster(&mut self, roster: &[u8]) {
+        for code in roster {
+            self.add(i32::from(*code));
         }
     }
 

@@ -1,7 +1,10 @@
 use anyhow::anyhow;
 use bounded::Bounded;
-use limits::system::{LARGEST, MARKS, System, TOP};
-use limits::unfit::Unfit;
+use entry::refusal::Refusal;
+use kinds::boxes::Boxes;
+use ledger::book::Book;
+use ledger::days::DAYS;
+use limits::system::{MARKS, TOP};
 use std::fmt;
 use std::str::FromStr;
 
@@ -23,7 +26,7 @@ impl FromStr for Sort {
             "agreed" => Ok(Sort::Agreed),
             "blocked" => Ok(Sort::Blocked),
             "slow" => Ok(Sort::Slow),
-            _ => Err(anyhow!("no sort of system: {word}")),
+            _ => Err(anyhow!("no sort of plan: {word}")),
         }
     }
 }
@@ -61,11 +64,21 @@ impl Draws {
     }
 }
 
-// A system whose days and rules stand around hidden weights, which solve it unless it is blocked.
-pub(crate) fn made_up(days: u32, rules: u32, sort: Sort) -> Result<System, Unfit> {
+// What can be settled: days, and the rules over them.
+#[derive(Drop)]
+pub(crate) struct Plan {
+    pub(crate) entries: Bounded<Boxes, DAYS>,
+    pub(crate) book: Book,
+}
+
+// A plan whose days and rules stand around hidden weights, which solve it unless it is blocked.
+pub(crate) fn made_up(days: u32, rules: u32, sort: Sort) -> Result<Plan, Refusal> {
     let mut draws = Draws(days);
-    let mut system = System::new();
-    let totals = add_days(&mut system, &mut draws, days)?;
+    let mut plan = Plan {
+        entries: Bounded::new(Boxes::new(0, 0)?),
+        book: Book::new(),
+    };
+    let totals = add_days(&mut plan, &mut draws, days)?;
     for number in 1..=rules {
         let alone = sort == Sort::Slow && number <= days;
         let blocks = sort == Sort::Blocked && number == rules;
@@ -75,27 +88,30 @@ pub(crate) fn made_up(days: u32, rules: u32, sort: Sort) -> Result<System, Unfit
             draws.window(days)
         };
         let before = first.saturating_sub(1);
+        let count = last.saturating_sub(before);
         let sum = total_at(&totals, last).saturating_sub(total_at(&totals, before));
         let least = if alone {
             sum
         } else if blocks {
-            let count = last.saturating_sub(before);
             sum.saturating_add(count.saturating_mul(DAY_LEEWAY + 1))
         } else {
             draws.between(sum.saturating_sub(RULE_LEEWAY), sum.saturating_sub(1))
         };
         let most = sum.max(least).saturating_add(draws.between(1, RULE_LEEWAY));
-        system.add_rule(number, first, last, least.min(LARGEST), most.min(LARGEST))?;
+        let largest = count.saturating_mul(TOP);
+        plan.book.rule(
+            plan.entries.as_slice(),
+            first,
+            last,
+            least.min(largest),
+            most.min(largest),
+        )?;
     }
-    Ok(system)
+    Ok(plan)
 }
 
 // The answer is the hidden total at each mark.
-fn add_days(
-    system: &mut System,
-    draws: &mut Draws,
-    days: u32,
-) -> Result<Bounded<u32, MARKS>, Unfit> {
+fn add_days(plan: &mut Plan, draws: &mut Draws, days: u32) -> Result<Bounded<u32, MARKS>, Refusal> {
     let mut total = 0u32;
     let mut totals = Bounded::new(total);
     let _ = totals.push(total);
@@ -103,7 +119,8 @@ fn add_days(
         let weight = draws.between(0, TOP);
         let lightest = draws.between(weight.saturating_sub(DAY_LEEWAY), weight);
         let heaviest = draws.between(weight, weight.saturating_add(DAY_LEEWAY).min(TOP));
-        system.add_day(lightest, heaviest)?;
+        let entry = Boxes::new(lightest, heaviest)?;
+        plan.entries.push(entry).map_err(|_| Refusal::TooManyDays)?;
         total = total.wrapping_add(weight);
         let _ = totals.push(total);
     }

@@ -1,5 +1,5 @@
-// Judges and closes made-up systems, to be measured: measure DAYS RULES SORT WORK TIMES, or with no arguments a small run.
-// bench/plain.rs prints the same.
+// Judges, closes and settles made-up plans, to be measured: measure DAYS RULES SORT WORK TIMES, or with no arguments a small
+// run. bench/plain.rs prints the same.
 #![tactic(auto)]
 
 mod checksum;
@@ -9,15 +9,18 @@ mod task;
 use chains::judge;
 use checksum::Checksum;
 use closure::Closure;
+use entry::refusal::Refusal;
 use limits::link::Mark;
 use limits::system::System;
-use limits::unfit::Unfit;
-use made_up::{Sort, made_up};
+use made_up::{Plan, Sort, made_up};
+use plan::system_of;
+use settlement::settle;
+use settlement::verdict::{Agreement, Verdict};
 use std::env;
 use task::{Task, Work};
 
-fn build_once(task: &Task, checksum: &mut Checksum) -> Result<(), Unfit> {
-    let system = made_up(task.days, task.rules, task.sort)?;
+fn build_once(plan: &Plan, checksum: &mut Checksum) -> Result<(), Refusal> {
+    let system = system_of(plan.entries.as_slice(), &plan.book)?;
     checksum.add_links(system.links());
     checksum.add_totals(system.lightest());
     checksum.add_totals(system.heaviest());
@@ -52,14 +55,31 @@ fn add_closure(closure: &Closure<'_>, checksum: &mut Checksum) {
     }
 }
 
-fn work(task: &Task) -> Result<Checksum, Unfit> {
+fn settle_once(plan: &Plan, checksum: &mut Checksum) {
+    let settlement = settle(plan.entries.as_slice(), &plan.book);
+    match settlement.verdict() {
+        Verdict::Agreed(agreement) => add_agreement(agreement, checksum),
+        Verdict::Blocked(chain) => checksum.add_links(chain.as_slice()),
+        Verdict::Refused(refusal) => checksum.add(refusal.number().cast_signed()),
+    }
+}
+
+fn add_agreement(agreement: &Agreement, checksum: &mut Checksum) {
+    checksum.add_sets(agreement.possible.as_slice());
+    checksum.add_roster(agreement.lean.as_slice());
+    checksum.add_roster(agreement.full.as_slice());
+}
+
+fn work(task: &Task) -> Result<Checksum, Refusal> {
     let mut checksum = Checksum(0);
-    let system = made_up(task.days, task.rules, task.sort)?;
+    let plan = made_up(task.days, task.rules, task.sort)?;
+    let system = system_of(plan.entries.as_slice(), &plan.book)?;
     for _ in 0..task.times {
         match task.work {
-            Work::Build => build_once(task, &mut checksum)?,
+            Work::Build => build_once(&plan, &mut checksum)?,
             Work::Judge => judge_once(&system, &mut checksum),
             Work::Close => close_once(&system, &mut checksum),
+            Work::Settle => settle_once(&plan, &mut checksum),
         }
     }
     Ok(checksum)
@@ -73,7 +93,7 @@ fn run(rt: &HostRuntime, task: &Task) -> anyhow::Result<()> {
 
 fn small_run(rt: &HostRuntime) -> anyhow::Result<()> {
     for sort in [Sort::Agreed, Sort::Blocked, Sort::Slow] {
-        for work in [Work::Build, Work::Judge, Work::Close] {
+        for work in [Work::Build, Work::Judge, Work::Close, Work::Settle] {
             let task = Task {
                 days: 16,
                 rules: 64,

@@ -9,6 +9,8 @@ pub(crate) enum Work {
     Judge,
     // Judging too.
     Close,
+    // Building the plan's system, judging and closing too.
+    Settle,
 }
 
 impl FromStr for Work {
@@ -19,6 +21,7 @@ impl FromStr for Work {
             "build" => Ok(Work::Build),
             "judge" => Ok(Work::Judge),
             "close" => Ok(Work::Close),
+            "settle" => Ok(Work::Settle),
             _ => Err(anyhow!("no work: {word}")),
         }
     }
@@ -30,6 +33,7 @@ impl fmt::Display for Work {
             Work::Build => "build",
             Work::Judge => "judge",
             Work::Close => "close",
+            Work::Settle => "settle",
         })
     }
 }
