@@ -1,10 +1,11 @@
 -- A plan's system stays the plan's when a day or a rule is added to both.
-use Rattle.std.proofs.Common.{◌≡◌, ℕ, ◌+◌, ◌-◌, ◌<◌, ◌≤◌, ◌⊎◌, true, false, if◌then◌else◌, List, [], ◌∷◌, ◌++◌, All, Contains, length, map, take, slice_index_or, refl, ap, sym, ◌∙◌, inl, inr, ⊎_elim, arith, length-append}
+use Rattle.std.proofs.Common.{◌≡◌, ℕ, ◌+◌, ◌-◌, ◌*◌, ◌<◌, ◌≤◌, ◌⊎◌, Bool, true, false, if◌then◌else◌, List, [], ◌∷◌, ◌++◌, All, Contains, length, map, take, slice_index_or, refl, ap, sym, ◌∙◌, inl, inr, ⊎_elim, arith, length-append}
 use Rattle.std.proofs.Math.ListN.{get_or-append}
 use Rattle.std.proofs.Math.Seq.{get_or-append_seam}
 use Rattle.std.proofs.lemmas.Bool.{cases_lt, false_from_ne_true}
 use Rattle.std.proofs.lemmas.Bool.Decides.{nat_tests}
 use Rattle.std.proofs.lemmas.List.{append-nil, map-append, take_more}
+use Rattle.std.proofs.lemmas.List.Sums.{sum_by-append, count_by-le-length}
 use Rattle.std.proofs.lemmas.List.Elements.{All-append, All-cons, All-nil, All-weaker, Contains-append_left, Contains-append_right}
 use Rattle.entry.specs.Cells.{Meaning, weigh}
 use Rattle.entry.specs.Weights.{lightest, heaviest, Extreme}
@@ -16,7 +17,7 @@ use Rattle.limits.specs.Systems.{System, days, day_fits, with_day, rule_fits, wi
 use Rattle.ledger.specs.declared.rule.Rule.{Rule}
 use Rattle.ledger.specs.Ledgers.{Kind, Ledger, day_of, with_rules}
 use Rattle.ledger.specs.Rules.{Within, numbered, stands, no_rule}
-use Rattle.plan.specs.Tables.{Has, line_of, InTable, Represents}
+use Rattle.plan.specs.Tables.{Has, line_of, InTable, count_in_force, Represents}
 use Rattle.plan.specs.Building.{Builds}
 
 -- the plan p has more limits than l, whose lines stay the same, and the system t has their lines beside the links of s
@@ -27,14 +28,16 @@ module _ (l p : Ledger) (s t : System) (new : List Link)
   still : (k : Link) → InTable l k → InTable p k
   still k (has, is) = let more = kept k.limit has in (more.0, is ∙ sym more.1)
 
-  represents_more : days t ≡ length p.days → t.links ≡ s.links ++ new → Represents l s → Represents p t
-  represents_more long links r = record {
+  represents_more : days t ≡ length p.days → t.links ≡ s.links ++ new
+      → length s.links + length new ≡ 2 * length p.days + 2 * count_in_force p.rules → Represents l s → Represents p t
+  represents_more long links many r = record {
     days = long;
     known = rw links (All-append (InTable p) s.links new (All-weaker (InTable l) (InTable p) still s.links r.known) fits);
     whole = λ limit has.
         rw links (⊎_elim
         (λ old. let more = kept limit old in rw more.1 (Contains-append_left s.links new _ (r.whole limit old)))
         (Contains-append_right s.links new _) (added limit has));
+    once = rw links (length-append s.links new ∙ many);
   }
 
 all_two : (P : Link → Type 0) (a b : Link) → P a → P b → All P (a ∷ b ∷ [])
@@ -103,20 +106,19 @@ module _ (kind : Kind) (ds : List Meaning) (m : Meaning) (s : System) where
         (cases_lt day (length ds + 1))
 
   with_day_fits : Builds less s → length ds < 128 → lightest m ≤ 63 → heaviest m ≤ 63 → day_fits s (lightest m) (heaviest m) ≡ true
-  with_day_fits b few low high = let long = b.represents.days in let links = b.few in grind (arith, nat_tests)
+  with_day_fits b few low high = let long = b.represents.days in let links = b.represents.once in grind (arith, nat_tests)
 
   pub builds_day : Builds less s → length ds < 128 → lightest m ≤ 63 → heaviest m ≤ 63
       → Builds more (if day_fits s (lightest m) (heaviest m) then with_day s (lightest m) (heaviest m) else s)
   builds_day b few low high =
       let long = b.represents.days in
-      let links = b.few in
+      let links = b.represents.once in
       let marked : length (with_day s (lightest m) (heaviest m)).lightest ≡ length s.lightest + 1 = length-append s.lightest _ in
       let some = b.marked in
       rw (with_day_fits b few low high) (record {
         represents = represents_more less more s (with_day s (lightest m) (heaviest m)) day_links kept_day (fits_day long) (added_day long)
-            (omega (arith, one_more)) refl b.represents;
+            (omega (arith, one_more)) refl (omega (arith, one_more)) b.represents;
         marked = omega arith;
-        few = omega (arith, one_more, length-append s.links day_links);
       })
 
 -- ---- a rule more
@@ -133,6 +135,12 @@ module _ (l : Ledger) (rs : List Rule) (r : Rule) (s : System) where
 
   one_longer : length (rs ++ r ∷ []) ≡ length rs + 1
   one_longer = length-append rs (r ∷ [])
+
+  counted : (b : Bool) → r.in_force ≡ b → count_in_force (rs ++ r ∷ []) ≡ count_in_force rs + (if b then 1 else 0)
+  counted b is =
+      let more : count_in_force (rs ++ r ∷ []) ≡ count_in_force rs + (if r.in_force then 1 else 0) =
+      sum_by-append (λ x. if x.in_force then 1 else 0) rs (r ∷ []) ∙ omega arith in
+      more ∙ ap (λ on. count_in_force rs + (if on then 1 else 0)) is
 
   -- a rule that stood stands still, the same
   stands_still : (n : ℕ) → stands rs n ≡ true → (stands (rs ++ r ∷ []) n ≡ true) × (numbered (rs ++ r ∷ []) n ≡ numbered rs n)
@@ -188,26 +196,30 @@ module _ (l : Ledger) (rs : List Rule) (r : Rule) (s : System) where
 
   with_rule_fits : Builds shorter s → Within 128 63 r → r.last ≤ length l.days → length l.days ≤ 128 → length rs < 512
       → rule_fits s r.first r.last r.least r.most ≡ true
-  with_rule_fits b in_bounds inside few room = let long = b.represents.days in let links = b.few in grind (arith, nat_tests)
+  with_rule_fits b in_bounds inside few room =
+      let long = b.represents.days in
+      let links = b.represents.once in
+      let some = count_by-le-length (λ x. x.in_force) rs in
+      grind (arith, nat_tests)
 
   pub builds_rule : (place : ℕ) → place ≡ length rs → r.in_force ≡ true → Builds shorter s → Within 128 63 r
       → r.last ≤ length l.days → length l.days ≤ 128 → length rs < 512
       → Builds longer (if rule_fits s r.first r.last r.least r.most then with_rule s (place + 1) r.first r.last r.least r.most else s)
   builds_rule place at on b in_bounds inside few room =
-      let links = b.few in
+      let links = b.represents.once in
+      let many = counted true on in
       rw (with_rule_fits b in_bounds inside few room, at) (record {
         represents = represents_more shorter longer s (with_rule s (length rs + 1) r.first r.last r.least r.most) rule_links kept_rule
-            (fits_rule on) added_rule b.represents.days refl b.represents;
+            (fits_rule on) added_rule b.represents.days refl (omega arith) b.represents;
         marked = b.marked;
-        few = omega (arith, one_longer, length-append s.links rule_links);
       })
 
   pub builds_withdrawn : r.in_force ≡ false → Builds shorter s → Builds longer s
   builds_withdrawn off b =
-      let links = b.few in
+      let links = b.represents.once in
+      let many = counted false off in
       record {
         represents = represents_more shorter longer s s [] kept_rule (All-nil (InTable longer)) (none_added off)
-            b.represents.days (sym (append-nil s.links)) b.represents;
+            b.represents.days (sym (append-nil s.links)) (omega arith) b.represents;
         marked = b.marked;
-        few = omega (arith, one_longer);
       }

@@ -1,5 +1,5 @@
 -- What holds of a plan's system while it is built.
-use Rattle.std.specs.Prelude.{◌≡◌, ◌+◌, ◌*◌, ◌≤◌, None, length}
+use Rattle.std.specs.Prelude.{◌≡◌, ◌≤◌, None, length}
 use Rattle.ledger.specs.Ledgers.{Ledger, rule_past_days}
 use Rattle.limits.specs.Systems.{System}
 use Rattle.plan.specs.Tables.{Represents}
@@ -8,8 +8,7 @@ use Rattle.plan.specs.Tables.{Represents}
 abbrev pub RulesFit : Ledger → Type 0
 RulesFit l = (length l.days ≤ 128) × (rule_past_days l ≡ None)
 
--- the system is the plan's, with a mark before the first day, and two links at most for each day and each rule
+-- the system is the plan's, with a mark before the first day
 pub record Builds (l : Ledger) (s : System) : Type 0 where
   pub represents : Represents l s
   pub marked : 1 ≤ length s.lightest
-  pub few : length s.links ≤ 2 * length l.days + 2 * length l.rules

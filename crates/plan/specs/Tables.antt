@@ -1,8 +1,8 @@
 -- The table of limits of a plan, and the system that has exactly its links.
-use Rattle.std.specs.Prelude.{◌≡◌, ℕ, ◌<◌, ◌≤◌, true, All, Contains, length}
+use Rattle.std.specs.Prelude.{◌≡◌, ℕ, ◌+◌, ◌*◌, ◌<◌, ◌≤◌, true, All, Contains, count_by, length}
 use Rattle.entry.specs.Weights.{lightest, heaviest}
 use Rattle.ledger.specs.Ledgers.{Ledger, day_of}
-use Rattle.ledger.specs.Rules.{numbered, stands}
+use Rattle.ledger.specs.Rules.{Book, numbered, stands}
 use Rattle.limits.specs.declared.link.Link.{Link}
 use Rattle.limits.specs.declared.link.Limit.{Limit}
 use Rattle.limits.specs.declared.link.Limit.TheVariants.{Most, Least, Heaviest, Lightest}
@@ -30,8 +30,12 @@ line_of l (Lightest day) = lightest_of day (lightest (day_of l day))
 abbrev pub InTable : Ledger → Link → Type 0
 InTable l k = Has l k.limit × (k ≡ line_of l k.limit)
 
--- the system is the plan's: it has as many days, and for links exactly the lines of the table
+abbrev pub count_in_force : Book → ℕ
+count_in_force rules = count_by (λ r. r.in_force) rules
+
+-- the system is the plan's: it has as many days, and for links exactly the lines of the table, each once, in whatever order
 pub record Represents (l : Ledger) (s : System) : Type 0 where
   pub days : days s ≡ length l.days
   pub known : All (InTable l) s.links
   pub whole : (limit : Limit) → Has l limit → Contains s.links (line_of l limit)
+  pub once : length s.links ≡ 2 * length l.days + 2 * count_in_force l.rules
