@@ -64,7 +64,10 @@ fn tell_link(rt: &HostRuntime, link: Link, sum: i32) -> io::Result<()> {
 
 // The chain link by link, with what the links so far allow together. It has one for each mark at the most.
 fn tell_chain(rt: &HostRuntime, settlement: &Settlement<'_, '_, Collection>) -> io::Result<()> {
-    println!(rt; "  Blocked. Round this chain the days on letters can rise by at most:")?;
+    println!(rt;
+        "  Blocked. Mark 4 stands after day 4, and so on. Round this chain the days on letters"
+    )?;
+    println!(rt; "  can rise by at most:")?;
     let mut sum = 0i32;
     for k in 1..=MARKS as u32 {
         let Ok(link) = settlement.link(k) else {
