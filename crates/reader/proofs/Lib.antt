@@ -1,0 +1,4 @@
+pub mod Positions
+pub mod States
+pub mod Steps
+pub mod FormTexts
