@@ -1,0 +1,6 @@
+pub mod Lines
+pub mod Sheets
+pub mod Tokens
+pub mod Beginnings
+pub mod Next
+pub mod Passing
