@@ -1,0 +1,8 @@
+use Rattle.std.specs.Fmt.{digits}
+use Rattle.std.proofs.Common.{refl}
+use Rattle.sheet_cases.proofs.definitions.later_lines.Goals as goal
+
+-- the definition computes to these bytes
+pub returns : goal.returns
+unfolding digits
+returns c = refl
