@@ -1,11 +1,10 @@
 // A reviewer's fortnight: its rules, rosters checked against them, and what it is settled to.
 #![tactic(auto)]
 
-mod again;
 mod rosters;
 mod settling;
+mod sheets;
 
-use again::tell_again;
 use entry::refusal::Refusal;
 use kinds::collection::Collection;
 use ledger::book::Book;
@@ -13,6 +12,7 @@ use ledger::days;
 use papers::Papers;
 use rosters::tell_check;
 use settling::tell_settlement;
+use sheets::tell_sheets;
 use std::io;
 
 // Ends a line that says what was asked: by which row it is refused, and why.
@@ -113,5 +113,5 @@ fn main(rt: HostRuntime) -> anyhow::Result<()> {
     make_rules(&rt, &days, &mut book)?;
     play_checks(&rt, &days, &mut book)?;
     play_settling(&rt, &mut days, &mut book)?;
-    tell_again(&rt)
+    tell_sheets(&rt)
 }
