@@ -2,6 +2,9 @@
 //! `closure`, `plan` and `settlement` without contracts or proofs, over the same made-up plans. It takes
 //! the arguments of the program `measure` and prints what that prints.
 
+mod sheets;
+
+use sheets::{SheetSort, SheetTask, SheetWork};
 use std::env;
 use std::error::Error;
 use std::fmt;
@@ -814,15 +817,30 @@ fn small_run() -> Result<(), Refusal> {
             .print()?;
         }
     }
+    small_run_of_sheets();
     Ok(())
+}
+
+fn small_run_of_sheets() {
+    for sort in [SheetSort::Calls, SheetSort::Settles, SheetSort::Codes] {
+        for work in [SheetWork::Read, SheetWork::Spoil] {
+            SheetTask {
+                bytes: 400,
+                sort,
+                work,
+                times: 1,
+            }
+            .print();
+        }
+    }
 }
 
 fn main() -> Result<(), Box<dyn Error>> {
     let words: Vec<String> = env::args().skip(1).collect();
-    if words.is_empty() {
-        small_run()?;
-    } else {
-        Task::read(&words)?.print()?;
+    match words.as_slice() {
+        [] => small_run()?,
+        [first, rest @ ..] if first == "sheet" => SheetTask::read(rest)?.print(),
+        all => Task::read(all)?.print()?,
     }
     Ok(())
 }

@@ -48,10 +48,10 @@ const RULE_LEEWAY: u32 = 8;
 
 // Numbers that look like chance, the same in every run.
 #[derive(Drop)]
-struct Draws(u32);
+pub(crate) struct Draws(pub(crate) u32);
 
 impl Draws {
-    fn between(&mut self, low: u32, high: u32) -> u32 {
+    pub(crate) fn between(&mut self, low: u32, high: u32) -> u32 {
         self.0 = self.0.wrapping_mul(1_664_525).wrapping_add(1_013_904_223);
         let count = high.saturating_sub(low).saturating_add(1);
         low.wrapping_add((self.0 >> 16) % count)

@@ -1,9 +1,11 @@
-// Judges, closes and settles made-up plans, to be measured: measure DAYS RULES SORT WORK TIMES, or with no arguments a small
-// run. bench/plain.rs prints the same.
+// Judges, closes and settles made-up plans, and reads made-up sheets, to be measured: measure DAYS RULES SORT WORK TIMES or
+// measure sheet BYTES SORT WORK TIMES, or with no arguments a small run. bench/plain.rs prints the same.
 #![tactic(auto)]
 
 mod checksum;
 mod made_up;
+mod reading;
+mod sheets;
 mod task;
 
 use chains::judge;
@@ -14,8 +16,10 @@ use limits::link::Mark;
 use limits::system::System;
 use made_up::{Plan, Sort, made_up};
 use plan::system_of;
+use reading::{SheetTask, SheetWork, work_sheet};
 use settlement::settle;
 use settlement::verdict::{Agreement, Verdict};
+use sheets::SheetSort;
 use std::env;
 use task::{Task, Work};
 
@@ -91,6 +95,12 @@ fn run(rt: &HostRuntime, task: &Task) -> anyhow::Result<()> {
     Ok(())
 }
 
+fn run_sheet(rt: &HostRuntime, task: &SheetTask) -> anyhow::Result<()> {
+    let (bytes, checksum) = work_sheet(task);
+    println!(rt; "{task}: {bytes} bytes, {}", checksum.0)?;
+    Ok(())
+}
+
 fn small_run(rt: &HostRuntime) -> anyhow::Result<()> {
     for sort in [Sort::Agreed, Sort::Blocked, Sort::Slow] {
         for work in [Work::Build, Work::Judge, Work::Close, Work::Settle] {
@@ -104,14 +114,29 @@ fn small_run(rt: &HostRuntime) -> anyhow::Result<()> {
             run(rt, &task)?;
         }
     }
+    small_run_of_sheets(rt)
+}
+
+fn small_run_of_sheets(rt: &HostRuntime) -> anyhow::Result<()> {
+    for sort in [SheetSort::Calls, SheetSort::Settles, SheetSort::Codes] {
+        for work in [SheetWork::Read, SheetWork::Spoil] {
+            let task = SheetTask {
+                bytes: 400,
+                sort,
+                work,
+                times: 1,
+            };
+            run_sheet(rt, &task)?;
+        }
+    }
     Ok(())
 }
 
 fn main(rt: HostRuntime) -> anyhow::Result<()> {
     let words: Vec<String> = env::args(&rt)?.skip(1).collect(rt.alloc())?;
-    if words.is_empty() {
-        small_run(&rt)
-    } else {
-        run(&rt, &Task::read(&words)?)
+    match words.as_slice() {
+        [] => small_run(&rt),
+        [first, rest @ ..] if first.as_str() == "sheet" => run_sheet(&rt, &SheetTask::read(rest)?),
+        all => run(&rt, &Task::read(all)?),
     }
 }
