@@ -1,6 +1,5 @@
 use crate::settling::print_calendar;
 use bounded::Bounded;
-use codes::set::CodeSet;
 use course::settle_after;
 use kinds::collection::Collection;
 use ledger::book::Book;
@@ -51,14 +50,6 @@ fn read(text: &[u8]) -> Result<(Start, Calls), LineFault> {
     Ok((start, calls))
 }
 
-fn numbers(codes: CodeSet) -> Bounded<u32, 64> {
-    let mut list = Bounded::new(0);
-    for code in codes.codes() {
-        let _ = list.push(code);
-    }
-    list
-}
-
 fn tell_fault(rt: &HostRuntime, fault: LineFault) -> io::Result<()> {
     let ReadFault { kind, place } = fault.read;
     let words = match kind {
@@ -77,9 +68,7 @@ fn tell_calls(rt: &HostRuntime, start: Start, calls: &[Call]) -> anyhow::Result<
         counts,
     } = start
     {
-        let held = numbers(codes.codes);
-        let counted = numbers(counts.codes);
-        let mut days = [Collection::new(held.as_slice(), counted.as_slice())?; 10];
+        let mut days = [Collection::from_sets(codes.codes, counts.codes); 10];
         let mut book = Book::new();
         let settlement = settle_after(&mut days, &mut book, calls);
         print_calendar(rt, &settlement)?;

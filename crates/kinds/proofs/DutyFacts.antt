@@ -1,12 +1,12 @@
 -- What a duty entry holds, and what a strike or a grant makes of it.
 use mir.Val.{bool_byte}
-use Rattle.std.specs.Prelude.{◌≡◌, ℕ, ◌&&◌, nat_lt, Bool, true, false, if◌then◌else◌, List, Ok, Err, ◌==◌, ◌≢◌, refl}
+use Rattle.std.specs.Prelude.{◌≡◌, ℕ, ◌&&◌, nat_lt, Bool, true, false, not, IsTrue, ◌↔◌, if◌then◌else◌, Ok, Err, ◌==◌, ◌≢◌, refl}
+use Rattle.std.specs.Cmp.{both_ways}
 use Rattle.std.proofs.Common.{sym, ap, ◌∙◌, inl, inr, arith}
 use Rattle.std.proofs.lemmas.Bool.{cases_Bool, le-ltb}
 use Rattle.std.proofs.lemmas.Bool.Decides.{nat_tests}
 use Rattle.codes.specs.declared.set.CodeSet.{CodeSet}
-use Rattle.codes.specs.Members.{member}
-use Rattle.entry.specs.Refusals.{topmost, answered}
+use Rattle.codes.specs.Members.{member, members}
 use Rattle.entry.specs.Cells.{Meaning, weigh, held, cells, NoGap, Sized}
 use Rattle.entry.specs.Edits.{Strikes, Grants}
 use Rattle.entry.specs.Weights.{lightest, heaviest, Lightest, Heaviest}
@@ -17,9 +17,9 @@ use Rattle.entry.specs.declared.refusal.Refusal.TheVariants.{OnlyCode, UnknownCo
 use Rattle.kinds.specs.declared.duty.Duty.{Duty}
 use Rattle.kinds.specs.Laws.{duty_light, held-duty_code}
 use Rattle.kinds.specs.Duties.{duty_code, duties, duty_of, duty_weight, either}
-use Rattle.kinds.specs.Listings.{lists, listing_rows}
+use Rattle.kinds.specs.Listings.{lists, all_known}
 use Rattle.kinds.proofs.LightFacts.{light_sized, level}
-use Rattle.kinds.proofs.ListingFacts.{taken_all, all_taken, listed-known}
+use Rattle.kinds.proofs.ListingFacts.{all_taken, listed-known, all_known-listed, lists-members}
 
 module _ (off on : Bool) where
   abbrev m : Meaning
@@ -126,17 +126,24 @@ module _ (d : Duty) (c : ℕ) where
   grants_neither z o =
       grants_unknown duties duty_code c d fits (le-ltb c 2 (omega arith)) (held-duty_code d.off d.on c)
 
--- the entry of the set of a listing's codes
-pub built : (ns : List ℕ) (s : CodeSet) (off on : Bool) → off ≡ member s 0 → on ≡ member s 1
-    → Ok (member s) ≡ answered (topmost (listing_rows duty_code ns)) (lists ns)
-    → Ok (duties (record { off = off; on = on })) ≡ duty_of ns
-built ns s off on e o listed =
-    let taken = taken_all duty_code ns (lists ns) (member s) listed in
-    let known = listed-known duty_code ns in
-    let zero : off ≡ lists ns 0 = e ∙ ap (λ f. f 0) taken.1 in
-    let one : on ≡ lists ns 1 = o ∙ ap (λ f. f 1) taken.1 in
-    let same : (k : ℕ) → either off on k ≡ lists ns k = λ k. grind (arith, nat_tests, known k taken.0) in
-    ap (λ f. Ok (cells duty_weight f)) (λ j k. same k j) ∙ sym (all_taken duty_code ns (cells duty_weight (lists ns)) taken.0)
+-- the test that a set has no other codes than 0 and 1
+pub known_alone : (s t u : CodeSet) → ((c : ℕ) → member t c ≡ (member s c && not (c == 0)))
+    → ((c : ℕ) → member u c ≡ (member t c && not (c == 1)))
+    → (empty : Bool) → (IsTrue empty ↔ ((c : ℕ) → member u c ≡ false)) → empty ≡ all_known duty_code (members s)
+known_alone s t u first second empty none =
+    let others : (c : ℕ) → member u c ≡ (member s c && not (duty_code c)) = λ c. grind (arith, nat_tests, first c, second c) in
+    both_ways _ _
+    (λ e. all_known-listed duty_code (members s) (λ c l. grind (arith, nat_tests, others c, none.0 e c, lists-members s c)))
+    (λ all. none.1 (λ c. grind (arith, nat_tests, others c, lists-members s c, listed-known duty_code (members s) c all)))
+
+-- the entry of a set's codes
+pub built : (s : CodeSet) (off on : Bool) → off ≡ member s 0 → on ≡ member s 1 → all_known duty_code (members s) ≡ true
+    → Ok (duties (record { off = off; on = on })) ≡ duty_of (members s)
+built s off on e o all =
+    let ns = members s in
+    let same : (k : ℕ) → either off on k ≡ lists ns k =
+    λ k. grind (arith, nat_tests, listed-known duty_code ns k all, lists-members s k) in
+    ap (λ f. Ok (cells duty_weight f)) (λ i k. same k i) ∙ sym (all_taken duty_code ns (cells duty_weight (lists ns)) all)
 
 -- of each method, the cases that its body goes through
 pub ruleset holds_cases = (says_off, says_on, says_neither)

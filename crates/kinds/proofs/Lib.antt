@@ -1,3 +1,4 @@
+pub mod BuildFacts
 pub mod CollectionFacts
 pub mod DutyFacts
 pub mod LightFacts

@@ -1,6 +1,6 @@
-ghost use Rattle.std.specs.Prelude.{◌≡◌};
+ghost use Rattle.std.specs.Prelude.{◌≡◌, Ok};
 ghost use Rattle.std.proofs.Common.{rules};
-ghost use Rattle.codes.specs.Members.{member};
+ghost use Rattle.codes.specs.Members.{member, members};
 ghost use Rattle.entry.specs.Refusals.{told};
 ghost use Rattle.entry.proofs.CellFacts.{length-cells, held-known, weigh_unknown, weigh_below, cells-gapless};
 ghost use Rattle.kinds.specs.Codes.{any_code};
@@ -21,12 +21,21 @@ pub struct Collection {
 
 impl Collection {
     // The listed codes, of which those in `counts` count; refused where either list has a number that is no code.
+    #[tactic(auto, using(crate::proofs::BuildFacts::collection_again))]
     pub fn new(codes: &[u32], counts: &[u32]) -> Result<Collection, Refusal>
         ensures { told collected result ≡ collection_of codes.now counts.now }
     {
         let held = listed::<Collection>(codes)?;
         let counted = listed::<Collection>(counts)?;
-        Ok(Collection { held, counted })
+        Ok(Collection::from_sets(held, counted))
+    }
+
+    // The codes in `held`, of which those in `counted` count: no set has a number that is no code.
+    #[tactic(auto, using(crate::proofs::BuildFacts::from_two_sets))]
+    pub fn from_sets(held: CodeSet, counted: CodeSet) -> Collection
+        ensures { Ok (collected result) ≡ collection_of (members held) (members counted) }
+    {
+        Collection { held, counted }
     }
 }
 

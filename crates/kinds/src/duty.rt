@@ -1,9 +1,11 @@
 ghost use Rattle.std.specs.Prelude.{◌≡◌};
 ghost use Rattle.std.proofs.Common.{◌∙◌, arith, rules};
 ghost use Rattle.std.proofs.lemmas.Bool.Decides.{nat_tests};
+ghost use Rattle.codes.specs.Members.{members};
 ghost use Rattle.entry.specs.Refusals.{told};
 ghost use Rattle.entry.proofs.CellFacts.{length-cells, weigh-cells, weigh_below, cells-gapless};
 ghost use Rattle.kinds.specs.Duties.{duty_code, duties, duty_of, duty_weight, either};
+ghost use Rattle.kinds.specs.Listings.{all_known};
 ghost use Rattle.kinds.specs.Laws.{duty_light, held-duty_code};
 
 use crate::listing::listed;
@@ -21,15 +23,32 @@ pub struct Duty {
 
 impl Duty {
     // The listed codes; refused where one is neither 0 nor 1.
-    #[tactic(auto, using(crate::proofs::DutyFacts::built))]
+    #[tactic(auto, using(crate::proofs::BuildFacts::duty_again))]
     pub fn new(codes: &[u32]) -> Result<Duty, Refusal>
         ensures { told duties result ≡ duty_of codes.now }
     {
-        let held = listed::<Duty>(codes)?;
+        Duty::from_set(listed::<Duty>(codes)?)
+    }
+
+    // The codes of a set, or the same refusal.
+    #[tactic(auto, using(crate::proofs::DutyFacts::built))]
+    pub fn from_set(codes: CodeSet) -> Result<Duty, Refusal>
+        ensures { told duties result ≡ duty_of (members codes) }
+    {
+        if !Duty::known_alone(codes) {
+            return Err(Refusal::UnknownCode);
+        }
         Ok(Duty {
-            off: held.contains(0),
-            on: held.contains(1),
+            off: codes.contains(0),
+            on: codes.contains(1),
         })
+    }
+
+    // The set has no other codes than 0 and 1.
+    fn known_alone(codes: CodeSet) -> bool
+        ensures { result ≡ all_known duty_code (members codes) }
+    {
+        codes.without(0).without(1).is_empty()
     }
 }
 

@@ -1,6 +1,7 @@
 use crate::boxes::Boxes;
 use crate::collection::Collection;
 use crate::duty::Duty;
+use codes::set::CodeSet;
 use entry::refusal::Refusal;
 use entry::traits::Entry;
 use std::test::Fail;
@@ -67,5 +68,16 @@ fn empty_entries(rt: HostRuntime) -> Result<(), Fail> {
     assert_eq!(rt; duty.strike(0), Ok(()));
     assert_eq!(rt; duty.grant(1), Ok(()));
     assert!(rt; holds_run(&duty, 1, 1));
+    Ok(())
+}
+
+#[test]
+fn built_from_sets(rt: HostRuntime) -> Result<(), Fail> {
+    let on = CodeSet::single(1);
+    assert!(rt; holds_run(&Duty::from_set(on.with(0))?, 0, 1));
+    assert!(rt; Duty::from_set(on.with(2)).is_err());
+    let free = Collection::from_sets(CodeSet::single(63), on);
+    assert!(rt; holds_run(&free, 63, 63));
+    assert_eq!(rt; (free.weight(1), free.weight(63)), (1, 0));
     Ok(())
 }
