@@ -1,0 +1,8 @@
+use Rattle.std.proofs.Common.{arith}
+use Rattle.answers.proofs.PuttingFacts.{puts_then}
+use Rattle.answers.proofs.writing.put_two.Goals as goal
+
+pub returns : goal.returns
+returns c =
+    let end = puts_then (omega arith) c.put_listed-end.ensures c.put.ensures in
+    puts_then (omega arith) c.put-end.ensures (puts_then (omega arith) c.put_number-end.ensures end)
