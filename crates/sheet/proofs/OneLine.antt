@@ -51,7 +51,7 @@ line_from is = line_of (fold gather fresh is)
 from_bytes : (l : Line) → Small (numbers l) → line_from (items (written l)) ≡ l
 from_bytes l small = ap line_from (written_items l small) ∙ ap line_of (gathers l small) ∙ found_again l
 
-one_line : (l k : Line) → Small (numbers l) → Small (numbers k) → written l ≡ written k → l ≡ k
+pub one_line : (l k : Line) → Small (numbers l) → Small (numbers k) → written l ≡ written k → l ≡ k
 one_line l k small few same = sym (from_bytes l small) ∙ ap (λ bs. line_from (items bs)) same ∙ from_bytes k few
 
 -- so whatever line there is where one is read is what was read, and none is where a fault is told

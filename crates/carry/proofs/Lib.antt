@@ -1,0 +1,12 @@
+pub mod StartFacts
+pub mod ListFacts
+pub mod WorkFacts
+pub mod OpeningFacts
+pub mod SmallPlans
+pub mod AnswerLengths
+pub mod Lengths
+pub mod CarryFacts
+pub mod OneVerdict
+pub mod OneAnswer
+pub mod OnePlace
+pub mod OneResult
