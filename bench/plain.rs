@@ -1,14 +1,18 @@
 //! Judging, closing and settling written plainly in Rust: the algorithm of the crates `chains`,
-//! `closure`, `plan` and `settlement` without contracts or proofs, over the same made-up plans. It takes
-//! the arguments of the program `measure` and prints what that prints.
+//! `closure`, `plan` and `settlement` without contracts or proofs, over the same made-up plans. Beside it
+//! stand reading and carrying of sheets. It takes the arguments of the program `measure` and prints what
+//! that prints.
 
+mod carry;
 mod sheets;
+mod whole;
 
 use sheets::{SheetSort, SheetTask, SheetWork};
 use std::env;
 use std::error::Error;
 use std::fmt;
 use std::str::FromStr;
+use whole::{Kind, WholeTask, WholeWork};
 
 const DAYS: usize = 128;
 const MARKS: usize = DAYS + 1;
@@ -27,10 +31,15 @@ const RULE_LEEWAY: u32 = 8;
 enum Refusal {
     TooManyDays,
     EmptyDay(u32),
+    NoSuchDay,
     BadWindow,
     BadCount,
     BookFull,
+    NoSuchRule,
     RulePastDays(u32),
+    UnknownCode,
+    OnlyCode,
+    WeightGap,
 }
 
 impl Refusal {
@@ -39,10 +48,15 @@ impl Refusal {
         match self {
             Refusal::TooManyDays => 1,
             Refusal::EmptyDay(_) => 2,
+            Refusal::NoSuchDay => 3,
             Refusal::BadWindow => 4,
             Refusal::BadCount => 5,
             Refusal::BookFull => 6,
+            Refusal::NoSuchRule => 7,
             Refusal::RulePastDays(_) => 8,
+            Refusal::UnknownCode => 9,
+            Refusal::OnlyCode => 10,
+            Refusal::WeightGap => 11,
         }
     }
 }
@@ -52,10 +66,15 @@ impl fmt::Display for Refusal {
         match self {
             Refusal::TooManyDays => f.write_str("a plan has 128 days at the most"),
             Refusal::EmptyDay(day) => write!(f, "day {day} holds no code"),
+            Refusal::NoSuchDay => f.write_str("the plan has no such day"),
             Refusal::BadWindow => f.write_str("the plan has no such days"),
             Refusal::BadCount => f.write_str("no days can add up to that"),
             Refusal::BookFull => f.write_str("the book has no room for that"),
+            Refusal::NoSuchRule => f.write_str("no rule in force has that number"),
             Refusal::RulePastDays(rule) => write!(f, "rule {rule} ends past the days"),
+            Refusal::UnknownCode => f.write_str("there is no such code"),
+            Refusal::OnlyCode => f.write_str("nothing else is left for that day"),
+            Refusal::WeightGap => f.write_str("the numbers allowed would no longer be consecutive"),
         }
     }
 }
@@ -76,9 +95,16 @@ trait Entry {
 
     /// What the heaviest held code weighs.
     fn heaviest(&self) -> u32;
+
+    /// Takes a code out.
+    fn strike(&mut self, code: u32) -> Result<(), Refusal>;
+
+    /// Puts a code in.
+    fn grant(&mut self, code: u32) -> Result<(), Refusal>;
 }
 
 /// The codes from a low one to a high one. A code weighs its number.
+#[derive(Clone, Copy)]
 struct Boxes {
     low: u8,
     high: u8,
@@ -113,6 +139,49 @@ impl Entry for Boxes {
         } else {
             0
         }
+    }
+
+    fn strike(&mut self, code: u32) -> Result<(), Refusal> {
+        if code >= CODES {
+            return Err(Refusal::UnknownCode);
+        }
+        if !self.holds(code) {
+            return Ok(());
+        }
+        if self.low == self.high {
+            return Err(Refusal::OnlyCode);
+        }
+        if code == u32::from(self.low) {
+            self.low += 1;
+        } else if code == u32::from(self.high) {
+            self.high -= 1;
+        } else {
+            return Err(Refusal::WeightGap);
+        }
+        Ok(())
+    }
+
+    fn grant(&mut self, code: u32) -> Result<(), Refusal> {
+        if code >= CODES {
+            return Err(Refusal::UnknownCode);
+        }
+        if self.holds(code) {
+            return Ok(());
+        }
+        let code = code as u8;
+        if self.high < self.low {
+            *self = Boxes {
+                low: code,
+                high: code,
+            };
+        } else if code + 1 == self.low {
+            self.low = code;
+        } else if self.high + 1 == code {
+            self.high = code;
+        } else {
+            return Err(Refusal::WeightGap);
+        }
+        Ok(())
     }
 }
 
@@ -531,6 +600,24 @@ impl Draws {
         let first = self.between(1, days);
         (first, self.between(first, days))
     }
+
+    /// A rule's first and last day, its least and its most. No day weighs more than `top`.
+    fn rule(&mut self, stand: Stand, days: u32, totals: &[u32], top: u32) -> [u32; 4] {
+        let (first, last) = match stand {
+            Stand::Alone(day) => (day, day),
+            Stand::Around | Stand::Above => self.window(days),
+        };
+        let count = last - first + 1;
+        let sum = totals[last as usize] - totals[first as usize - 1];
+        let least = match stand {
+            Stand::Alone(_) => sum,
+            Stand::Above => sum + count * (DAY_LEEWAY + 1),
+            Stand::Around => self.between(sum.saturating_sub(RULE_LEEWAY), sum.saturating_sub(1)),
+        };
+        let most = sum.max(least) + self.between(1, RULE_LEEWAY);
+        let largest = count * top;
+        [first, last, least.min(largest), most.min(largest)]
+    }
 }
 
 #[derive(Clone, Copy, PartialEq)]
@@ -567,6 +654,28 @@ impl fmt::Display for Sort {
     }
 }
 
+impl Sort {
+    /// How the rule with the number stands to the hidden weights.
+    fn stand(self, number: u32, rules: u32, days: u32) -> Stand {
+        match self {
+            Sort::Slow if number <= days => Stand::Alone(number),
+            Sort::Blocked if number == rules => Stand::Above,
+            _ => Stand::Around,
+        }
+    }
+}
+
+/// How a rule stands to the hidden weights.
+#[derive(Clone, Copy)]
+enum Stand {
+    /// Over some days, whose sum keeps it.
+    Around,
+    /// Over one day, which weighs no less than it asks.
+    Alone(u32),
+    /// Over some days, and it asks more of them than their weights with all their leeway.
+    Above,
+}
+
 /// What can be settled: days, and the rules over them.
 struct Plan {
     entries: Vec<Boxes>,
@@ -578,27 +687,10 @@ fn made_up(days: u32, rules: u32, sort: Sort) -> Result<Plan, Refusal> {
     let mut draws = Draws(days);
     let (entries, totals) = made_up_days(&mut draws, days);
     let mut book = Book::new();
-    let total_at = |mark: u32| totals.get(mark as usize).copied().unwrap_or(0);
     for number in 1..=rules {
-        let alone = sort == Sort::Slow && number <= days;
-        let blocks = sort == Sort::Blocked && number == rules;
-        let (first, last) = if alone {
-            (number, number)
-        } else {
-            draws.window(days)
-        };
-        let count = last - first + 1;
-        let sum = total_at(last).saturating_sub(total_at(first - 1));
-        let least = if alone {
-            sum
-        } else if blocks {
-            sum + count * (DAY_LEEWAY + 1)
-        } else {
-            draws.between(sum.saturating_sub(RULE_LEEWAY), sum.saturating_sub(1))
-        };
-        let most = sum.max(least) + draws.between(1, RULE_LEEWAY);
-        let largest = count * TOP;
-        book.rule(&entries, first, last, least.min(largest), most.min(largest))?;
+        let stand = sort.stand(number, rules, days);
+        let [first, last, least, most] = draws.rule(stand, days, &totals, TOP);
+        book.rule(&entries, first, last, least, most)?;
     }
     Ok(Plan { entries, book })
 }
@@ -833,6 +925,21 @@ fn small_run_of_sheets() {
             .print();
         }
     }
+    small_run_of_whole_sheets();
+}
+
+fn small_run_of_whole_sheets() {
+    for kind in [Kind::Duty, Kind::Collection, Kind::Boxes] {
+        for sort in [Sort::Agreed, Sort::Blocked] {
+            WholeTask {
+                kind,
+                sort,
+                work: WholeWork::Carry,
+                times: 1,
+            }
+            .print();
+        }
+    }
 }
 
 fn main() -> Result<(), Box<dyn Error>> {
@@ -840,6 +947,7 @@ fn main() -> Result<(), Box<dyn Error>> {
     match words.as_slice() {
         [] => small_run()?,
         [first, rest @ ..] if first == "sheet" => SheetTask::read(rest)?.print(),
+        [first, rest @ ..] if first == "whole" => WholeTask::read(rest)?.print(),
         all => Task::read(all)?.print()?,
     }
     Ok(())

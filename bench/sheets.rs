@@ -17,24 +17,24 @@ const SPARE: usize = 50;
 
 /// What is wrong with a byte: no sheet has it, or the form has it not here.
 #[derive(Clone, Copy)]
-enum FaultKind {
+pub enum FaultKind {
     Bytes,
     Form,
 }
 
 /// The first byte with which the line can no longer be completed, or the end of the text.
 #[derive(Clone, Copy)]
-struct Fault {
-    kind: FaultKind,
-    line: u32,
-    column: u32,
+pub struct Fault {
+    pub kind: FaultKind,
+    pub line: u32,
+    pub column: u32,
 }
 
 /// The codes of a list, bit c for code c, and whether the list has other numbers.
 #[derive(Clone, Copy)]
-struct CodeList {
-    codes: u64,
-    goes_above: bool,
+pub struct CodeList {
+    pub codes: u64,
+    pub goes_above: bool,
 }
 
 impl CodeList {
@@ -55,7 +55,7 @@ impl CodeList {
 }
 
 #[derive(Clone, Copy)]
-enum Start {
+pub enum Start {
     Duty {
         days: u32,
         codes: CodeList,
@@ -73,7 +73,7 @@ enum Start {
 }
 
 #[derive(Clone, Copy)]
-enum Call {
+pub enum Call {
     Rule {
         first: u32,
         last: u32,
@@ -101,7 +101,7 @@ enum Call {
 
 /// What of a sheet is still to be read. `text` is as much of it as may be read.
 #[derive(Clone, Copy)]
-struct Sheet<'a> {
+pub struct Sheet<'a> {
     text: &'a [u8],
     is_too_long: bool,
     at: usize,
@@ -110,7 +110,7 @@ struct Sheet<'a> {
 }
 
 impl<'a> Sheet<'a> {
-    fn open(text: &'a [u8]) -> Result<(Start, Sheet<'a>), Fault> {
+    pub fn open(text: &'a [u8]) -> Result<(Start, Sheet<'a>), Fault> {
         let mut sheet = Sheet {
             text: &text[..text.len().min(LIMIT)],
             is_too_long: text.len() > LIMIT,
@@ -124,7 +124,7 @@ impl<'a> Sheet<'a> {
     }
 
     /// The next line's call, and none where the text is over. A line at fault is not passed.
-    fn next_call(&mut self) -> Result<Option<Call>, Fault> {
+    pub fn next_call(&mut self) -> Result<Option<Call>, Fault> {
         if self.at == self.text.len() && !self.is_too_long {
             return Ok(None);
         }
@@ -429,7 +429,15 @@ fn first_form(sort: SheetSort) -> &'static [u8] {
     }
 }
 
-const LATER_FORMS: [&[u8]; 6] = [
+/// The forms of later lines, up to the one that settles.
+pub const RULE: usize = 0;
+pub const SLIDE: usize = 1;
+pub const WITHDRAW: usize = 2;
+pub const STRIKE: usize = 3;
+pub const GRANT: usize = 4;
+pub const SETTLE: usize = 5;
+
+pub const LATER_FORMS: [&[u8]; 6] = [
     b"(rule (days # #) (count # #))\n",
     b"(slide # (count # #))\n",
     b"(withdraw #)\n",
@@ -448,10 +456,10 @@ fn made_up_sheet(bytes: u32, sort: SheetSort) -> Vec<u8> {
     writer.form(first_form(sort));
     while writer.has_room() {
         let number = match sort {
-            SheetSort::Settles => 5,
-            _ => writer.draws.between(0, 5),
+            SheetSort::Settles => SETTLE,
+            _ => writer.draws.between(0, SETTLE as u32) as usize,
         };
-        writer.form(LATER_FORMS[number as usize]);
+        writer.form(LATER_FORMS[number]);
     }
     writer.text
 }
@@ -587,7 +595,7 @@ impl fmt::Display for SheetTask {
     }
 }
 
-fn read_once(text: &[u8], checksum: &mut Checksum) {
+pub fn read_once(text: &[u8], checksum: &mut Checksum) {
     if let Err(fault) = read_all(text, checksum) {
         checksum.add_fault(fault);
     }

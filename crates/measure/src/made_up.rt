@@ -41,6 +41,28 @@ impl fmt::Display for Sort {
     }
 }
 
+impl Sort {
+    // How the rule with the number stands to the hidden weights.
+    pub(crate) fn stand(self, number: u32, rules: u32, days: u32) -> Stand {
+        match self {
+            Sort::Slow if number <= days => Stand::Alone(number),
+            Sort::Blocked if number == rules => Stand::Above,
+            _ => Stand::Around,
+        }
+    }
+}
+
+// How a rule stands to the hidden weights.
+#[derive(Clone, Copy, PartialEq, Eq, Debug)]
+pub(crate) enum Stand {
+    // Over some days, whose sum keeps it.
+    Around,
+    // Over one day, which weighs no less than it asks.
+    Alone(u32),
+    // Over some days, and it asks more of them than their weights with all their leeway.
+    Above,
+}
+
 // How far a day or a rule strays from the hidden weights at most.
 const DAY_LEEWAY: u32 = 15;
 
@@ -62,6 +84,33 @@ impl Draws {
         let first = self.between(1, days);
         (first, self.between(first, days))
     }
+
+    // A rule's first and last day, its least and its most. No day weighs more than `top`.
+    pub(crate) fn rule(
+        &mut self,
+        stand: Stand,
+        days: u32,
+        totals: &Bounded<u32, MARKS>,
+        top: u32,
+    ) -> [u32; 4] {
+        let (first, last) = match stand {
+            Stand::Alone(day) => (day, day),
+            Stand::Around | Stand::Above => self.window(days),
+        };
+        let before = first.saturating_sub(1);
+        let count = last.saturating_sub(before);
+        let sum = total_at(totals, last).saturating_sub(total_at(totals, before));
+        let least = match stand {
+            Stand::Alone(_) => sum,
+            Stand::Above => sum.saturating_add(count.saturating_mul(DAY_LEEWAY + 1)),
+            Stand::Around => {
+                self.between(sum.saturating_sub(RULE_LEEWAY), sum.saturating_sub(1))
+            }
+        };
+        let most = sum.max(least).saturating_add(self.between(1, RULE_LEEWAY));
+        let largest = count.saturating_mul(top);
+        [first, last, least.min(largest), most.min(largest)]
+    }
 }
 
 // What can be settled: days, and the rules over them.
@@ -80,32 +129,10 @@ pub(crate) fn made_up(days: u32, rules: u32, sort: Sort) -> Result<Plan, Refusal
     };
     let totals = add_days(&mut plan, &mut draws, days)?;
     for number in 1..=rules {
-        let alone = sort == Sort::Slow && number <= days;
-        let blocks = sort == Sort::Blocked && number == rules;
-        let (first, last) = if alone {
-            (number, number)
-        } else {
-            draws.window(days)
-        };
-        let before = first.saturating_sub(1);
-        let count = last.saturating_sub(before);
-        let sum = total_at(&totals, last).saturating_sub(total_at(&totals, before));
-        let least = if alone {
-            sum
-        } else if blocks {
-            sum.saturating_add(count.saturating_mul(DAY_LEEWAY + 1))
-        } else {
-            draws.between(sum.saturating_sub(RULE_LEEWAY), sum.saturating_sub(1))
-        };
-        let most = sum.max(least).saturating_add(draws.between(1, RULE_LEEWAY));
-        let largest = count.saturating_mul(TOP);
-        plan.book.rule(
-            plan.entries.as_slice(),
-            first,
-            last,
-            least.min(largest),
-            most.min(largest),
-        )?;
+        let stand = sort.stand(number, rules, days);
+        let [first, last, least, most] = draws.rule(stand, days, &totals, TOP);
+        plan.book
+            .rule(plan.entries.as_slice(), first, last, least, most)?;
     }
     Ok(plan)
 }
@@ -127,6 +154,6 @@ fn add_days(plan: &mut Plan, draws: &mut Draws, days: u32) -> Result<Bounded<u32
     Ok(totals)
 }
 
-fn total_at(totals: &Bounded<u32, MARKS>, mark: u32) -> u32 {
+pub(crate) fn total_at(totals: &Bounded<u32, MARKS>, mark: u32) -> u32 {
     totals.as_slice().get(mark as usize).copied().unwrap_or(0)
 }

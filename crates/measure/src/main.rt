@@ -1,13 +1,17 @@
-// Judges, closes and settles made-up plans, and reads made-up sheets, to be measured: measure DAYS RULES SORT WORK TIMES or
-// measure sheet BYTES SORT WORK TIMES, or with no arguments a small run. bench/plain.rs prints the same.
+// Judges, closes and settles made-up plans, reads made-up sheets and carries whole ones, to be measured:
+// measure DAYS RULES SORT WORK TIMES, measure sheet BYTES SORT WORK TIMES or measure whole KIND SORT WORK TIMES, or with no
+// arguments a small run. bench/plain.rs prints the same.
 #![tactic(auto)]
 
+mod carrying;
 mod checksum;
 mod made_up;
 mod reading;
 mod sheets;
 mod task;
+mod whole_sheets;
 
+use carrying::{LIST, WholeTask, WholeWork, work_whole};
 use chains::judge;
 use checksum::Checksum;
 use closure::Closure;
@@ -22,6 +26,7 @@ use settlement::verdict::{Agreement, Verdict};
 use sheets::SheetSort;
 use std::env;
 use task::{Task, Work};
+use whole_sheets::{Kind, SETTLES};
 
 fn build_once(plan: &Plan, checksum: &mut Checksum) -> Result<(), Refusal> {
     let system = system_of(plan.entries.as_slice(), &plan.book)?;
@@ -101,6 +106,16 @@ fn run_sheet(rt: &HostRuntime, task: &SheetTask) -> anyhow::Result<()> {
     Ok(())
 }
 
+fn run_whole(rt: &HostRuntime, task: &WholeTask) -> anyhow::Result<()> {
+    let mut list = vec![in rt.alloc(); 0u8; LIST]?;
+    let outcome = work_whole(task, list.as_mut_slice());
+    println!(rt;
+        "{task}: {} bytes, {SETTLES} settles, {} bytes of answers, {}",
+        outcome.bytes, outcome.answers, outcome.checksum.0
+    )?;
+    Ok(())
+}
+
 fn small_run(rt: &HostRuntime) -> anyhow::Result<()> {
     for sort in [Sort::Agreed, Sort::Blocked, Sort::Slow] {
         for work in [Work::Build, Work::Judge, Work::Close, Work::Settle] {
@@ -129,6 +144,21 @@ fn small_run_of_sheets(rt: &HostRuntime) -> anyhow::Result<()> {
             run_sheet(rt, &task)?;
         }
     }
+    small_run_of_whole_sheets(rt)
+}
+
+fn small_run_of_whole_sheets(rt: &HostRuntime) -> anyhow::Result<()> {
+    for kind in [Kind::Duty, Kind::Collection, Kind::Boxes] {
+        for sort in [Sort::Agreed, Sort::Blocked] {
+            let task = WholeTask {
+                kind,
+                sort,
+                work: WholeWork::Carry,
+                times: 1,
+            };
+            run_whole(rt, &task)?;
+        }
+    }
     Ok(())
 }
 
@@ -137,6 +167,7 @@ fn main(rt: HostRuntime) -> anyhow::Result<()> {
     match words.as_slice() {
         [] => small_run(&rt),
         [first, rest @ ..] if first.as_str() == "sheet" => run_sheet(&rt, &SheetTask::read(rest)?),
+        [first, rest @ ..] if first.as_str() == "whole" => run_whole(&rt, &WholeTask::read(rest)?),
         all => run(&rt, &Task::read(all)?),
     }
 }

@@ -84,7 +84,7 @@ pub(crate) fn work_sheet(task: &SheetTask) -> (usize, Checksum) {
     (text.len(), checksum)
 }
 
-fn read_once(text: &[u8], checksum: &mut Checksum) {
+pub(crate) fn read_once(text: &[u8], checksum: &mut Checksum) {
     if let Err(fault) = read_all(text, checksum) {
         checksum.add_fault(&fault.read);
     }

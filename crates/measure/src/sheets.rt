@@ -53,14 +53,26 @@ fn first_form(sort: SheetSort) -> &'static [u8] {
     }
 }
 
-// The forms of later lines, by number. From 5 on it is the one that settles.
-fn later_form(number: u32) -> &'static [u8] {
+// The forms of later lines by number, up to the one that settles.
+pub(crate) const RULE: u32 = 0;
+
+pub(crate) const SLIDE: u32 = 1;
+
+pub(crate) const WITHDRAW: u32 = 2;
+
+pub(crate) const STRIKE: u32 = 3;
+
+pub(crate) const GRANT: u32 = 4;
+
+pub(crate) const SETTLE: u32 = 5;
+
+pub(crate) fn later_form(number: u32) -> &'static [u8] {
     match number {
-        0 => b"(rule (days # #) (count # #))\n",
-        1 => b"(slide # (count # #))\n",
-        2 => b"(withdraw #)\n",
-        3 => b"(strike # #)\n",
-        4 => b"(grant # #)\n",
+        RULE => b"(rule (days # #) (count # #))\n",
+        SLIDE => b"(slide # (count # #))\n",
+        WITHDRAW => b"(withdraw #)\n",
+        STRIKE => b"(strike # #)\n",
+        GRANT => b"(grant # #)\n",
         _ => b"(settle)\n",
     }
 }
@@ -78,8 +90,8 @@ pub(crate) fn made_up_sheet(bytes: u32, sort: SheetSort) -> Bounded<u8, ROOM> {
             break;
         }
         let number = match sort {
-            SheetSort::Settles => 5,
-            _ => writer.draws.between(0, 5),
+            SheetSort::Settles => SETTLE,
+            _ => writer.draws.between(0, SETTLE),
         };
         writer.form(later_form(number));
     }
