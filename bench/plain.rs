@@ -3,6 +3,9 @@
 //! stand reading and carrying of sheets. It takes the arguments of the program `measure` and prints what
 //! that prints.
 
+#[macro_use]
+mod spelled;
+
 mod carry;
 mod sheets;
 mod whole;
@@ -11,7 +14,6 @@ use sheets::{SheetSort, SheetTask, SheetWork};
 use std::env;
 use std::error::Error;
 use std::fmt;
-use std::str::FromStr;
 use whole::{Kind, WholeTask, WholeWork};
 
 const DAYS: usize = 128;
@@ -631,28 +633,13 @@ enum Sort {
     Slow,
 }
 
-impl FromStr for Sort {
-    type Err = String;
-
-    fn from_str(word: &str) -> Result<Sort, String> {
-        match word {
-            "agreed" => Ok(Sort::Agreed),
-            "blocked" => Ok(Sort::Blocked),
-            "slow" => Ok(Sort::Slow),
-            _ => Err(format!("no sort of plan: {word}")),
-        }
-    }
-}
-
-impl fmt::Display for Sort {
-    fn fmt(&self, f: &mut fmt::Formatter) -> fmt::Result {
-        f.pad(match self {
-            Sort::Agreed => "agreed",
-            Sort::Blocked => "blocked",
-            Sort::Slow => "slow",
-        })
-    }
-}
+spelled!(
+    Sort,
+    "sort of plan",
+    Agreed = "agreed",
+    Blocked = "blocked",
+    Slow = "slow"
+);
 
 impl Sort {
     /// How the rule with the number stands to the hidden weights.
@@ -721,30 +708,14 @@ enum Work {
     Settle,
 }
 
-impl FromStr for Work {
-    type Err = String;
-
-    fn from_str(word: &str) -> Result<Work, String> {
-        match word {
-            "build" => Ok(Work::Build),
-            "judge" => Ok(Work::Judge),
-            "close" => Ok(Work::Close),
-            "settle" => Ok(Work::Settle),
-            _ => Err(format!("no work: {word}")),
-        }
-    }
-}
-
-impl fmt::Display for Work {
-    fn fmt(&self, f: &mut fmt::Formatter) -> fmt::Result {
-        f.pad(match self {
-            Work::Build => "build",
-            Work::Judge => "judge",
-            Work::Close => "close",
-            Work::Settle => "settle",
-        })
-    }
-}
+spelled!(
+    Work,
+    "work",
+    Build = "build",
+    Judge = "judge",
+    Close = "close",
+    Settle = "settle"
+);
 
 /// A number that depends on all numbers added and on their order.
 struct Checksum(i32);

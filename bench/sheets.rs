@@ -4,7 +4,6 @@
 use crate::{Checksum, Draws};
 use std::error::Error;
 use std::fmt;
-use std::str::FromStr;
 
 /// A byte behind so many is at fault, whatever it is.
 const LIMIT: usize = 16_384;
@@ -397,28 +396,13 @@ pub enum SheetSort {
     Codes,
 }
 
-impl FromStr for SheetSort {
-    type Err = String;
-
-    fn from_str(word: &str) -> Result<SheetSort, String> {
-        match word {
-            "calls" => Ok(SheetSort::Calls),
-            "settles" => Ok(SheetSort::Settles),
-            "codes" => Ok(SheetSort::Codes),
-            _ => Err(format!("no sort of sheet: {word}")),
-        }
-    }
-}
-
-impl fmt::Display for SheetSort {
-    fn fmt(&self, f: &mut fmt::Formatter) -> fmt::Result {
-        f.pad(match self {
-            SheetSort::Calls => "calls",
-            SheetSort::Settles => "settles",
-            SheetSort::Codes => "codes",
-        })
-    }
-}
+spelled!(
+    SheetSort,
+    "sort of sheet",
+    Calls = "calls",
+    Settles = "settles",
+    Codes = "codes"
+);
 
 /// The form of a first line, where `#` stands for a number and `*` for a list of codes.
 fn first_form(sort: SheetSort) -> &'static [u8] {
@@ -521,26 +505,7 @@ pub enum SheetWork {
     Spoil,
 }
 
-impl FromStr for SheetWork {
-    type Err = String;
-
-    fn from_str(word: &str) -> Result<SheetWork, String> {
-        match word {
-            "read" => Ok(SheetWork::Read),
-            "spoil" => Ok(SheetWork::Spoil),
-            _ => Err(format!("no work on a sheet: {word}")),
-        }
-    }
-}
-
-impl fmt::Display for SheetWork {
-    fn fmt(&self, f: &mut fmt::Formatter) -> fmt::Result {
-        f.pad(match self {
-            SheetWork::Read => "read",
-            SheetWork::Spoil => "spoil",
-        })
-    }
-}
+spelled!(SheetWork, "work on a sheet", Read = "read", Spoil = "spoil");
 
 /// What is to be done with a sheet of at most so many bytes, and how often.
 pub struct SheetTask {

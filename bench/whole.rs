@@ -5,7 +5,6 @@ use crate::sheets::{read_once, GRANT, LATER_FORMS, RULE, SETTLE, SLIDE, STRIKE, 
 use crate::{Checksum, Draws, Sort, DAYS as MOST_DAYS, RULES as MOST_RULES, TOP};
 use std::error::Error;
 use std::fmt;
-use std::str::FromStr;
 
 const DAYS: u32 = MOST_DAYS as u32;
 
@@ -29,28 +28,13 @@ pub enum Kind {
     Boxes,
 }
 
-impl FromStr for Kind {
-    type Err = String;
-
-    fn from_str(word: &str) -> Result<Kind, String> {
-        match word {
-            "duty" => Ok(Kind::Duty),
-            "collection" => Ok(Kind::Collection),
-            "boxes" => Ok(Kind::Boxes),
-            _ => Err(format!("no kind: {word}")),
-        }
-    }
-}
-
-impl fmt::Display for Kind {
-    fn fmt(&self, f: &mut fmt::Formatter) -> fmt::Result {
-        f.pad(match self {
-            Kind::Duty => "duty",
-            Kind::Collection => "collection",
-            Kind::Boxes => "boxes",
-        })
-    }
-}
+spelled!(
+    Kind,
+    "kind",
+    Duty = "duty",
+    Collection = "collection",
+    Boxes = "boxes"
+);
 
 impl Kind {
     fn top(self) -> u32 {
@@ -192,28 +176,13 @@ pub enum WholeWork {
     Carry,
 }
 
-impl FromStr for WholeWork {
-    type Err = String;
-
-    fn from_str(word: &str) -> Result<WholeWork, String> {
-        match word {
-            "read" => Ok(WholeWork::Read),
-            "edit" => Ok(WholeWork::Edit),
-            "carry" => Ok(WholeWork::Carry),
-            _ => Err(format!("no work on a whole sheet: {word}")),
-        }
-    }
-}
-
-impl fmt::Display for WholeWork {
-    fn fmt(&self, f: &mut fmt::Formatter) -> fmt::Result {
-        f.pad(match self {
-            WholeWork::Read => "read",
-            WholeWork::Edit => "edit",
-            WholeWork::Carry => "carry",
-        })
-    }
-}
+spelled!(
+    WholeWork,
+    "work on a whole sheet",
+    Read = "read",
+    Edit = "edit",
+    Carry = "carry"
+);
 
 /// What is to be done with a whole sheet, and how often.
 pub struct WholeTask {
