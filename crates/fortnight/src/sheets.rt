@@ -1,5 +1,6 @@
 use crate::settling::print_calendar;
 use bounded::Bounded;
+use carry::carry;
 use course::settle_after;
 use kinds::collection::Collection;
 use ledger::book::Book;
@@ -76,6 +77,18 @@ fn tell_calls(rt: &HostRuntime, start: Start, calls: &[Call]) -> anyhow::Result<
     Ok(())
 }
 
+// Every line of the sheet once more, worked and answered by one call.
+fn tell_answers(rt: &HostRuntime, text: &[u8]) -> anyhow::Result<()> {
+    let mut list = [0; 1024];
+    let carried = carry(text, &mut list);
+    println!(rt; "  Answered line by line:")?;
+    for answer in str::from_utf8(&list[..carried.count])?.lines() {
+        println!(rt; "    {answer}")?;
+    }
+    println!(rt; "  Ended by refusal {}.", carried.number())?;
+    Ok(())
+}
+
 // The fortnight from a sheet, and from one that is mistyped.
 pub(crate) fn tell_sheets(rt: &HostRuntime) -> anyhow::Result<()> {
     for (name, text) in [("a sheet", FORTNIGHT), ("a mistyped sheet", MISTYPED)] {
@@ -84,6 +97,7 @@ pub(crate) fn tell_sheets(rt: &HostRuntime) -> anyhow::Result<()> {
             Ok((start, calls)) => tell_calls(rt, start, calls.as_slice())?,
             Err(fault) => tell_fault(rt, fault)?,
         }
+        tell_answers(rt, text)?;
     }
     Ok(())
 }
