@@ -8,13 +8,10 @@ use Rattle.carry.specs.Carrying.{Answered, Carries}
 use Rattle.carry.specs.Ends.{End, last_line}
 use Rattle.carry.specs.AnswerLists.{Extends, WorksText, room}
 use Rattle.carry.proofs.Lengths.{few_bytes}
-use Rattle.carry.proofs.ListFacts.{extends_then, room_left, within}
+use Rattle.carry.proofs.ListFacts.{extends_then, room_left}
 
 module _ (text list : List ℕ) (s t : AnswerList) (e : End) (same : s.list.now ≡ list) (empty : s.count ≡ 0)
     (works : WorksText text s e t) where
-  pub work_within : t.count ≤ length t.list.now
-  work_within = ∥∥₁_elim works.1 (hlevel props) (λ (bs, more, answers). within s t bs more)
-
   module _ (u : AnswerList) (closes : Extends t (last_line (room t) e) u) (final : List ℕ) (count : ℕ) (is : final ≡ u.list.now) (counted : count ≡ u.count) where
     -- all that is written, with what it makes of the list
     all_of : (bs : List ℕ) → Extends s bs t → Extends s (bs ++ last_line (room t) e) u

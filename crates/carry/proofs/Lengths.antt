@@ -5,14 +5,11 @@ use Rattle.std.specs.Prelude.{Ok, Err, Result, IfOk, nat_le}
 use Rattle.std.proofs.Math.Logic.{∥∥₁_elim}
 use Rattle.std.proofs.Props.{props}
 use Rattle.std.proofs.lemmas.Bool.{cases_Bool}
-use Rattle.std.proofs.lemmas.Bool.Decides.{nat_tests}
 use Rattle.entry.specs.Refusals.{Row}
 use Rattle.ledger.specs.declared.call.Call.{Call}
 use Rattle.ledger.specs.Ledgers.{Ledger, after}
 use Rattle.reader.specs.Places.{longest}
-use Rattle.tokens.specs.Lines.{Line, call}
-use Rattle.tokens.specs.Sheets.{LineAt}
-use Rattle.tokens.proofs.Unique.{some_byte, ends_within}
+use Rattle.tokens.specs.Lines.{call}
 use Rattle.sheet.specs.Faults.{IsFault}
 use Rattle.sheet.specs.declared.fault.LineFault.{LineFault}
 use Rattle.answers.specs.Answers.{written}

@@ -1,5 +1,5 @@
 -- Writing one answer behind another.
-use Rattle.std.proofs.Common.{◌≡◌, ℕ, ◌+◌, ◌-◌, ◌≤◌, List, [], ◌++◌, length, refl, sym, subst, ◌∙◌, arith, length-append}
+use Rattle.std.proofs.Common.{◌≡◌, ℕ, ◌+◌, ◌-◌, List, [], ◌++◌, length, refl, sym, subst, ◌∙◌, arith, length-append}
 use Rattle.std.specs.Prelude.{Ok, Err, IsErrAnd}
 use Rattle.std.proofs.Math.Logic.{∥∥₁_elim}
 use Rattle.std.proofs.Props.{props}
@@ -15,10 +15,10 @@ pub same_end : (P : End → Type 0) (e : End) (f : CarryFault) → IsErrAnd e (�
 same_end P (Ok done) f told p = absurd told
 same_end P (Err g) f told p = subst (λ g. P (Err g)) (sym told) p
 
-pub extends_nothing : (s : AnswerList) → s.count ≤ length s.list.now → Extends s [] s
-extends_nothing s within = record {
+pub extends_nothing : (s : AnswerList) → Extends s [] s
+extends_nothing s = record {
   same_list = refl;
-  fits = omega arith;
+  fits = omega (arith, s.fits);
   count = omega arith;
   bytes = grind (arith, common_steps);
 }
@@ -30,9 +30,6 @@ module _ (s t : AnswerList) (bs : List ℕ) (more : Extends s bs t) where
 
   pub room_left : room t ≡ room s - length bs
   room_left = omega (arith, same_length, more.count, more.fits)
-
-  pub within : t.count ≤ length t.list.now
-  within = omega (arith, same_length, more.count, more.fits)
 
   pub extends_then : (u : AnswerList) (cs : List ℕ) → Extends t cs u → Extends s (bs ++ cs) u
   extends_then u cs further =

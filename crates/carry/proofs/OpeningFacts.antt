@@ -1,5 +1,5 @@
 -- The first line: it is refused, or does not fit, or opens a plan on which the calls are worked.
-use Rattle.std.proofs.Common.{◌≡◌, ℕ, zero, suc, ◌<◌, ◌≤◌, List, [], ◌∷◌, ◌++◌, length, map, take, replicate, refl, sym, ap, subst, ◌∙◌, inl, inr, arith}
+use Rattle.std.proofs.Common.{◌≡◌, ℕ, zero, suc, ◌<◌, ◌≤◌, List, [], ◌∷◌, ◌++◌, map, take, replicate, refl, sym, ap, subst, ◌∙◌, inl, inr, arith}
 use Rattle.std.specs.Prelude.{Ok, Err, Result}
 use Rattle.std.proofs.Math.Logic.{∥∥₁_elim, ∥∥₁_map}
 use Rattle.std.proofs.lemmas.List.{take-replicate}
@@ -31,21 +31,21 @@ use Rattle.answers.specs.Answers.{written}
 use Rattle.answers.specs.declared.answer.Answer.{Answer}
 use Rattle.answers.specs.declared.answer.Answer.TheVariants as answer
 use Rattle.carry.specs.declared.fault.CarryFault.{CarryFault}
-use Rattle.carry.specs.declared.fault.CarryFault.TheVariants.{Line as AtFault, Refused, Full}
+use Rattle.carry.specs.declared.fault.CarryFault.TheVariants.{Line as AtFault, Refused}
 use Rattle.carry.specs.declared.list.AnswerList.{AnswerList}
 use Rattle.carry.specs.Carrying.{Works, Opened}
 use Rattle.carry.specs.Ends.{End}
-use Rattle.carry.specs.AnswerLists.{Extends, Adds, BeginsPlan, WorksCalls, WorksPlan, WorksText, room}
+use Rattle.carry.specs.AnswerLists.{Extends, BeginsPlan, WorksCalls, WorksPlan, WorksText, room}
 use Rattle.carry.specs.Openings.{kind_of, plan_of, opens}
 use Rattle.carry.specs.Replies.{IsFirst}
 use Rattle.carry.proofs.ListFacts.{extends_nothing, extends_then, room_left, writes}
 
 module _ (text : List ℕ) (next : ℕ) (a : Answer) (s : AnswerList) where
   -- a row refuses the line
-  pub is_refused : (plan : Result Ledger Row) (e : Refusal) → plan ≡ Err (row_of e) → s.count ≤ length s.list.now
+  pub is_refused : (plan : Result Ledger Row) (e : Refusal) → plan ≡ Err (row_of e)
       → WorksPlan text next plan a s (Err (Refused e)) s
-  is_refused plan e is fits =
-      subst (λ p. WorksPlan text next p a s (Err (Refused e)) s) (sym is) (refl, ∣ ([], extends_nothing s fits, (refl, refl)) ∣₁)
+  is_refused plan e is =
+      subst (λ p. WorksPlan text next p a s (Err (Refused e)) s) (sym is) (refl, ∣ ([], extends_nothing s, (refl, refl)) ∣₁)
 
   module _ (plan : Result Ledger Row) (l : Ledger) (is : plan ≡ Ok l) (t : AnswerList) where
     -- the calls are worked behind its answer
@@ -149,6 +149,6 @@ opens_boxes n low high entry is (line.collection days held counted) none = absur
 opens_boxes n low high entry is (line.call c) none = absurd none
 
 -- a first line at fault
-pub text_faulty : (text : List ℕ) (s : AnswerList) (f : LineFault) → IsFault text 0 f → s.count ≤ length s.list.now
+pub text_faulty : (text : List ℕ) (s : AnswerList) (f : LineFault) → IsFault text 0 f
     → WorksText text s (Err (AtFault f)) s
-text_faulty text s f fault fits = (refl, ∣ ([], extends_nothing s fits, inr (f, fault, refl, refl)) ∣₁)
+text_faulty text s f fault = (refl, ∣ ([], extends_nothing s, inr (f, fault, refl, refl)) ∣₁)

@@ -22,7 +22,7 @@ use Rattle.sheet.specs.Faults.{IsFault}
 use Rattle.sheet.specs.Sheets.{GoesOn, text_of, place_of}
 use Rattle.sheet.specs.declared.fault.LineFault.{LineFault}
 use Rattle.sheet.specs.declared.sheet.Sheet.{Sheet}
-use Rattle.carry.proofs.ListFacts.{extends_nothing, extends_then, room_left, within, writes}
+use Rattle.carry.proofs.ListFacts.{extends_nothing, extends_then, room_left, writes}
 
 -- some calls of the lines from `at` on
 abbrev pub Working : List ℕ → ℕ → Ledger → ℕ → List ℕ → End → Type 0
@@ -38,8 +38,8 @@ module _ (text : List ℕ) (at : ℕ) (l : Ledger) (start : AnswerList) where
   abbrev pub Behind : ℕ → Ledger → AnswerList → Type 0
   Behind now m s = ∥ ((bs : List ℕ) × SoFar now m s bs) ∥₁
 
-  pub begins : start.count ≤ length start.list.now → Behind at l start
-  begins fits = ∣ ([], record { list = extends_nothing start fits; rest = λ more e works. ∣ works ∣₁ }) ∣₁
+  pub begins : Behind at l start
+  begins = ∣ ([], record { list = extends_nothing start; rest = λ more e works. ∣ works ∣₁ }) ∣₁
 
   -- one more call is answered
   pub goes_on : (now next : ℕ) (m : Ledger) (c : Call) (s t : AnswerList) → ∥ LineAt text now (call c) next ∥₁
@@ -78,10 +78,9 @@ module _ (text : List ℕ) (at : ℕ) (l : Ledger) (start : AnswerList) where
     line_of c gives = subst (λ bytes. ∥ LineAt bytes (place_of x) (call c) (place_of y) ∥₁) same gives.1
 
     pub gives_call : (c : Call) → GoesOn x (Ok (Some c)) y → AnswersCall m c s (Ok tt) t
-        → (text_of y ≡ text) × (t.count ≤ length t.list.now) × Behind (place_of y) (after m c) t
+        → (text_of y ≡ text) × Behind (place_of y) (after m c) t
     gives_call c gives (a, is, more) = (
       gives.0 ∙ same,
-      within s t (written a) more,
       goes_on (place_of x) (place_of y) m c s t (line_of c gives) (a, is, more) behind,
     )
 

@@ -24,7 +24,6 @@ pub(crate) fn work_calls<E: Entry>(
     mut sheet: Sheet<'_>,
     answers: &mut AnswerList<'_>,
 ) -> Result<(), CarryFault>
-    requires { answers.now.count ≤ length answers.now.list.now }
     ensures { WorksCalls (text_of sheet.entry) (place_of sheet.entry) (ledger E.Entry entries.old []) answers.old result answers.new }
 {
     let mut book = Book::new();
@@ -41,7 +40,6 @@ fn answer<E: Entry>(
     call: Call,
     answers: &mut AnswerList<'_>,
 ) -> Result<(), CarryFault>
-    requires { answers.now.count ≤ length answers.now.list.now }
     ensures after { ledger E.Entry entries.new book.new ≡ after (ledger E.Entry entries.old book.old) call }
     ensures answer { AnswersCall (ledger E.Entry entries.old book.old) call answers.old result answers.new }
 {

@@ -1,6 +1,4 @@
-ghost use Rattle.std.specs.Prelude.{◌≡◌, ◌≤◌, length};
-ghost use Rattle.carry.specs.Ends.{last_line};
-ghost use Rattle.carry.specs.AnswerLists.{Adds, Extends, room};
+ghost use Rattle.std.specs.Prelude.{◌≤◌, length};
 
 use crate::fault::CarryFault;
 use answers::answer::Answer;
@@ -10,9 +8,14 @@ use answers::answer::Answer;
 pub(crate) struct AnswerList<'a> {
     list: &'a mut [u8],
     count: usize,
+    ghost fits: { count ≤ length list.now },
 }
 
 impl<'a> AnswerList<'a> {
+    ghost use Rattle.std.specs.Prelude.{◌≡◌};
+    ghost use Rattle.carry.specs.Ends.{last_line};
+    ghost use Rattle.carry.specs.AnswerLists.{Adds, Extends, room};
+
     pub(crate) fn new(list: &'a mut [u8]) -> AnswerList<'a>
         ensures same_list { result.list.ghost_name ≡ list.entry.ghost_name }
         ensures list { result.list.now ≡ list.old }
@@ -29,7 +32,6 @@ impl<'a> AnswerList<'a> {
 
     // Writes one more answer, where it fits.
     pub(crate) fn add(&mut self, answer: Answer<'_>) -> Result<(), CarryFault>
-        requires { self.now.count ≤ length self.now.list.now }
         ensures { Adds self.old answer.entry result self.new }
     {
         let rest = &mut self.list[self.count..];
@@ -44,7 +46,6 @@ impl<'a> AnswerList<'a> {
 
     // Writes the line that an end has of its own, where it fits.
     pub(crate) fn close(&mut self, ended: Result<(), CarryFault>)
-        requires { self.now.count ≤ length self.now.list.now }
         ensures { Extends self.old (last_line (room self.old) ended) self.new }
     {
         let last = match ended {

@@ -23,7 +23,6 @@ use sheet::start::Start;
 
 // Works a text. Its first line says the kind, and the work on the others is the same for each.
 pub(crate) fn work(text: &[u8], answers: &mut AnswerList<'_>) -> Result<(), CarryFault>
-    requires { answers.now.count ≤ length answers.now.list.now }
     ensures { WorksText text.now answers.old result answers.new }
 {
     let (start, sheet) = Sheet::open(text)?;
@@ -55,7 +54,6 @@ fn begin<E: Entry>(
     answer: Answer<'_>,
     answers: &mut AnswerList<'_>,
 ) -> Result<E, CarryFault>
-    requires { answers.now.count ≤ length answers.now.list.now }
     ensures { BeginsPlan E.Entry days entry answer.entry answers.old result answers.new }
 {
     if days as usize > DAYS {
@@ -77,8 +75,7 @@ fn work_days<E: Entry>(
     sheet: Sheet<'_>,
     answers: &mut AnswerList<'_>,
 ) -> Result<(), CarryFault>
-    requires days { days ≤ 128 }
-    requires count { answers.now.count ≤ length answers.now.list.now }
+    requires { days ≤ 128 }
     ensures { WorksCalls (text_of sheet.entry) (place_of sheet.entry) (ledger E.Entry (take days entries.old) []) answers.old result answers.new }
 {
     work_calls(&mut entries[..days as usize], sheet, answers)

@@ -1,12 +1,7 @@
 use Rattle.std.proofs.Common.{length, refl, rules}
-use Rattle.carry.proofs.CarryFacts.{work_within, carried_answers, carried_within, carried_few, carried_beyond}
+use Rattle.carry.proofs.CarryFacts.{carried_answers, carried_within, carried_few, carried_beyond}
 use Rattle.carry.proofs.OneResult.{one_result}
 use Rattle.carry.proofs.carry.Goals as goal
-
-pub close-requires : goal.close-requires
-close-requires c =
-    work_within c.args.sheet.now c.args.answers.now c.new-answers.result c.work-ended.new.answers c.work-ended.result
-    c.new-answers.ensures.list c.new-answers.ensures.count c.work-ended.ensures
 
 pub returns-clause-answers : goal.returns-clause-answers
 returns-clause-answers c =

@@ -12,9 +12,8 @@ loop-call-init g c =
     let l = ledger g.E.Entry c.args.entries.now [] in
     record {
       text = refl;
-      fits = c.requires;
       behind = subst (λ rules. Behind (text_of c.args.sheet) (place_of c.args.sheet) l c.args.answers.now (place_of c.args.sheet) (ledger g.E.Entry c.args.entries.now rules) c.args.answers.now)
-          (sym c.new-book.ensures) (begins (text_of c.args.sheet) (place_of c.args.sheet) l c.args.answers.now c.requires);
+          (sym c.new-book.ensures) (begins (text_of c.args.sheet) (place_of c.args.sheet) l c.args.answers.now);
     }
 
 pub returns-in_err-call : goal.returns-in_err-call
@@ -35,11 +34,10 @@ loop-call-preserved g c =
     let l = ledger g.E.Entry c.args.entries.now [] in
     let m = ledger g.E.Entry c.loop-call.entries c.loop-call.book in
     let gives = subst (λ o. GoesOn c.loop-call.sheet (Ok o) c.next_call.new.self) c.in-Some.is c.in_ok-call.ensures.answer in
-    let (text, fits, behind) = gives_call (text_of c.args.sheet) (place_of c.args.sheet) l c.args.answers.now c.loop-call.sheet c.next_call.new.self m c.loop-call.answers c.answer.new.answers
+    let (text, behind) = gives_call (text_of c.args.sheet) (place_of c.args.sheet) l c.args.answers.now c.loop-call.sheet c.next_call.new.self m c.loop-call.answers c.answer.new.answers
     c.loop-call.invariant.text c.loop-call.invariant.behind c.in-Some.call gives c.in_ok-answer.ensures.answer in
     record {
       text = text;
-      fits = fits;
       behind = subst (λ n. Behind (text_of c.args.sheet) (place_of c.args.sheet) l c.args.answers.now (place_of c.next_call.new.self) n c.answer.new.answers)
           (sym c.in_ok-answer.ensures.after) behind;
     }

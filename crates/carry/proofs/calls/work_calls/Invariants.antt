@@ -1,4 +1,4 @@
-use Rattle.std.proofs.Common.{◌≡◌, ◌-◌, ◌≤◌, [], length}
+use Rattle.std.proofs.Common.{◌≡◌, ◌-◌, [], length}
 use Rattle.ledger.specs.Ledgers.{ledger}
 use Rattle.sheet.specs.Sheets.{text_of, place_of}
 use Rattle.carry.proofs.WorkFacts.{Behind}
@@ -7,7 +7,6 @@ use Rattle.carry.proofs.calls.work_calls.Given as goal
 abbrev pub invariant-loop-call : goal.invariant-loop-call
 invariant-loop-call g l = record {
   text : text_of l.sheet ≡ text_of l.fn.sheet;
-  fits : l.answers.count ≤ length l.answers.list.now;
   behind : Behind (text_of l.fn.sheet) (place_of l.fn.sheet) (ledger g.E.Entry l.fn.entries []) l.fn.answers (place_of l.sheet) (ledger g.E.Entry l.entries l.book) l.answers;
 }
 

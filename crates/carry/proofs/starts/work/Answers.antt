@@ -11,7 +11,7 @@ use Rattle.carry.proofs.starts.work.Goals as goal
 pub returns-in_err-start : goal.returns-in_err-start
 returns-in_err-start c =
     same_end (λ e. WorksText c.args.text.now c.args.answers.now e c.args.answers.now) c.from_residual.result _ c.from_residual.ensures.1
-    (text_faulty c.args.text.now c.args.answers.now c.in_err-start.field-0.0 c.in_err-start.ensures.answer c.requires)
+    (text_faulty c.args.text.now c.args.answers.now c.in_err-start.field-0.0 c.in_err-start.ensures.answer)
 
 pub returns-in_err-entry-in-Duty : goal.returns-in_err-entry-in-Duty
 returns-in_err-entry-in-Duty c =
