@@ -20,12 +20,6 @@ pub trait Entry: Copy {
     // For each code its weight and whether it is held.
     ghost meaning: { Self → Meaning };
 
-    fn top_weight() -> u32
-        ensures { result ≡ TOP }
-    {
-        Self::TOP
-    }
-
     fn known(code: u32) -> bool
         ensures { result ≡ known code };
 
