@@ -8,7 +8,7 @@ use Rattle.entry.specs.declared.refusal.Refusal.{Refusal}
 use Rattle.entry.specs.declared.refusal.Refusal.TheVariants.{TooManyDays}
 use Rattle.entry.specs.declared.traits.Entry.{Ghosts}
 use Rattle.entry.specs.Refusals.{Row, row_of, told}
-use Rattle.ledger.specs.Ledgers.{Ledger, ledger}
+use Rattle.ledger.specs.Ledgers.{Ledger, kind_of, ledger}
 use Rattle.kinds.specs.Codes.{any_code}
 use Rattle.kinds.specs.Collections.{collected, collection_of}
 use Rattle.kinds.specs.Duties.{duties, duty_code, duty_of}
@@ -36,7 +36,7 @@ use Rattle.carry.specs.declared.list.AnswerList.{AnswerList}
 use Rattle.carry.specs.Carrying.{Works, Opened}
 use Rattle.carry.specs.Ends.{End}
 use Rattle.carry.specs.AnswerLists.{Extends, BeginsPlan, WorksCalls, WorksPlan, WorksText, room}
-use Rattle.carry.specs.Openings.{kind_of, plan_of, opens}
+use Rattle.carry.specs.Openings.{plan_of, opens}
 use Rattle.carry.specs.Replies.{IsFirst}
 use Rattle.carry.proofs.ListFacts.{extends_nothing, extends_then, room_left, writes}
 

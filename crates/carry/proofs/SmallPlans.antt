@@ -7,6 +7,7 @@ use Rattle.std.proofs.lemmas.Bool.Decides.{nat_tests}
 use Rattle.std.proofs.lemmas.List.{set_past, length-replicate}
 use Rattle.std.proofs.lemmas.List.FromFn.{length-map-range_with_len}
 use Rattle.std.proofs.lemmas.List.Elements.{All-nil, All-cons, All-set, All-same, All-replicate}
+use Rattle.codes.specs.Members.{lists}
 use Rattle.entry.specs.Cells.{Meaning, cells}
 use Rattle.entry.specs.Edits.{marked}
 use Rattle.entry.specs.Refusals.{Row, Rows, row, topmost, answered, unless}
@@ -19,7 +20,6 @@ use Rattle.ledger.specs.Rules as rules
 use Rattle.ledger.specs.Rules.{made, windows, ended}
 use Rattle.kinds.specs.Collections.{weight_in, collection_of}
 use Rattle.kinds.specs.Duties.{duty_weight, duty_of}
-use Rattle.kinds.specs.Listings.{lists}
 use Rattle.kinds.specs.Spans.{spans, boxes_of}
 use Rattle.tokens.specs.Lines.{Line, duty, collection, boxes, call}
 use Rattle.carry.specs.Openings.{filled, plan_of, opens}

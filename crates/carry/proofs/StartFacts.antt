@@ -3,11 +3,10 @@ use Rattle.std.proofs.Common.{◌≡◌, ℕ, ◌<◌, true, false, List, [], �
 use Rattle.std.specs.Prelude.{◌⊎◌}
 use Rattle.std.proofs.lemmas.Bool.{cases_eq, cases_lt}
 use Rattle.std.proofs.lemmas.Bool.Decides.{nat_tests}
-use Rattle.codes.specs.Members.{members}
+use Rattle.codes.specs.Members.{members, lists}
 use Rattle.entry.specs.Refusals.{row}
 use Rattle.kinds.specs.Collections.{collection_of}
 use Rattle.kinds.specs.Duties.{duty_of}
-use Rattle.kinds.specs.Listings.{lists}
 use Rattle.kinds.proofs.BuildFacts.{duty_of-same, duty_of-beyond, collection_of-same, collection_of-beyond}
 use Rattle.kinds.proofs.ListingFacts.{lists-members}
 use Rattle.sheet.specs.CodeLists.{Lists, goes_above}

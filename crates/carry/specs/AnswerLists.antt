@@ -4,14 +4,14 @@ use Rattle.entry.specs.declared.refusal.Refusal.{Refusal}
 use Rattle.entry.specs.declared.traits.Entry.{Ghosts}
 use Rattle.entry.specs.Refusals.{Row, told}
 use Rattle.ledger.specs.declared.call.Call.{Call}
-use Rattle.ledger.specs.Ledgers.{Ledger}
+use Rattle.ledger.specs.Ledgers.{Ledger, kind_of}
 use Rattle.answers.specs.Answers.{written}
 use Rattle.answers.specs.declared.answer.Answer.{Answer}
 use Rattle.carry.specs.declared.fault.CarryFault.{CarryFault}
 use Rattle.carry.specs.declared.fault.CarryFault.TheVariants.{Line as AtFault, Refused, Full}
 use Rattle.carry.specs.declared.list.AnswerList.{AnswerList}
 use Rattle.carry.specs.Ends.{End}
-use Rattle.carry.specs.Openings.{kind_of, plan_of}
+use Rattle.carry.specs.Openings.{plan_of}
 use Rattle.carry.specs.Replies.{IsAnswer}
 use Rattle.carry.specs.Carrying.{Works, Opened, Answered}
 

@@ -1,6 +1,5 @@
 -- What a first line opens: a plan, or the row that refuses it.
 use Rattle.std.specs.Prelude.{ℕ, [], replicate, if◌then◌else◌, nat_lt, Result, Ok, Err}
-use Rattle.entry.specs.declared.traits.Entry.{Ghosts}
 use Rattle.entry.specs.Cells.{Meaning}
 use Rattle.entry.specs.Refusals.{Row, row}
 use Rattle.ledger.specs.Ledgers.{Kind, Ledger}
@@ -9,10 +8,6 @@ use Rattle.kinds.specs.Duties.{duty_code, duty_of}
 use Rattle.kinds.specs.Collections.{collection_of}
 use Rattle.kinds.specs.Spans.{boxes_of}
 use Rattle.tokens.specs.Lines.{Line, duty, collection, boxes, call}
-
--- what the ledger uses of a kind
-abbrev pub kind_of : {X : Type 0} → Ghosts X → Kind
-kind_of kind = record { top = kind.TOP; known = kind.known }
 
 -- the same entry on each of the days, and no rule
 abbrev pub filled : Kind → ℕ → Result Meaning Row → Result Ledger Row

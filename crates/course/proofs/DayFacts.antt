@@ -11,7 +11,7 @@ use Rattle.entry.proofs.Tested.{decides_some, decides_gapless}
 use Rattle.course.specs.Runs.{Whole}
 
 module _ (m : Meaning) (c : ℕ) where
-  -- an edit that passes the test of the law of weights keeps it
+  -- an edit that passes the test of the no-gap law keeps it
   pub marked_whole : (holds : Bool) → gapless (marked m c holds) ≡ true → Sized m → Whole (marked m c holds)
   marked_whole holds whole sized =
       let new = marked m c holds in

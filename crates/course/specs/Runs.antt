@@ -46,7 +46,7 @@ taken l [] = []
 taken l (call ∷ calls) =
     if is_ok (reply l call) && not (is_settle call) then call ∷ taken (after l call) calls else taken (after l call) calls
 
--- 64 cells, and no gap in the weights
+-- 64 cells, no weight above 63, and no gap in the weights
 abbrev pub Whole : Meaning → Type 0
 Whole m = Sized m × NoGap m
 

@@ -51,7 +51,7 @@ module _ (m : Meaning) (long : length m ≡ 64) where
       Decides-and _ _ (decides_held _ (λ c. weigh m c < w) (λ c. Decides-ltb (weigh m c) w))
       (Decides-and _ _ (decides_held _ (λ c. w < weigh m c) (λ c. Decides-ltb w (weigh m c))) (Decides-not _ (weighing w)))
 
-  -- no weight is missing, where the law of weights holds
+  -- no weight is missing, where the no-gap law holds
   pub decides_gapless : ((c : ℕ) → weigh m c ≤ 63) → IsTrue (gapless m) ↔ NoGap m
   unfolding gapless
   decides_gapless low =

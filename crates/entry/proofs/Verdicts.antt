@@ -15,7 +15,7 @@ marked_same : (m : Meaning) (c : ℕ) (holds : Bool) → held m c ≡ holds → 
 marked_same m c holds e = rw (← e) (set-get_or m c vacant)
 
 module _ {X : Type 0} (meaning : X → Meaning) (known : ℕ → Bool) (c : ℕ) (x : X) (sized : Sized (meaning x)) where
-  -- the test of the law of weights decides it after an edit
+  -- the test of the no-gap law decides it after an edit
   whole_after : (holds : Bool) → IsTrue (gapless (marked (meaning x) c holds)) ↔ NoGap (marked (meaning x) c holds)
   whole_after holds = decides_gapless _ (rw length-set sized.0) (λ k. rw weigh-marked (sized.1 k))
 
@@ -50,7 +50,7 @@ module _ {X : Type 0} (meaning : X → Meaning) (known : ℕ → Bool) (c : ℕ)
   not-only : (held (meaning x) c ≡ true → (k : ℕ) × (held (meaning x) k ≡ true) × (k ≢ c)) → only (meaning x) c ≡ false
   not-only others = grind (arith, only_one.0, others)
 
-  -- where the law of weights would break, its test fails
+  -- where the no-gap law would break, its test fails
   gapless_torn : (holds : Bool) → ¬ NoGap (marked (meaning x) c holds) → gapless (marked (meaning x) c holds) ≡ false
   gapless_torn holds torn = false_from_ne_true _ (λ t. torn ((whole_after holds).0 t))
 

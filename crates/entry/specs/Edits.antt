@@ -30,7 +30,7 @@ missing m w =
     && (some (λ c. held m c && nat_lt w (weigh m c)) 64
     && not (some (λ c. held m c && weigh m c == w) 64))
 
--- the law of weights as a test: no weight is missing
+-- the no-gap law as a test: no weight is missing
 unfoldable pub gapless : Meaning → Bool
 gapless m = not (some (missing m) 64)
 
@@ -46,7 +46,7 @@ grant_rows known m c =
     (not (gapless (granted m c)), row 11) ∷ []
 
 -- An edit of code c at the entry x that answers r and leaves y. The rows decide both; a weight never changes, nor does
--- another code; what alters nothing leaves x itself; and the test of the law of weights decides the law.
+-- another code; what alters nothing leaves x itself; and the test of the no-gap law decides the law.
 pub record Edited {X : Type 0} (meaning : X → Meaning) (c : ℕ) (rows : Rows) (edited : Meaning) (Already : Type 0)
     (x : X) (r : Result (Unit {0}) Refusal) (y : X) : Type 0 where
   pub answer : outcome r ≡ answered (topmost rows) tt

@@ -2,13 +2,13 @@
 use Rattle.std.proofs.Common.{◌≡◌, ℕ, ◌<◌, true, false, not, ◌⊎◌, List, [], ◌∷◌, Ok, Err, sym, inl, inr, arith}
 use Rattle.std.proofs.lemmas.Bool.{le-ltb}
 use Rattle.codes.specs.declared.set.CodeSet.{CodeSet}
-use Rattle.codes.specs.Members.{member, members}
+use Rattle.codes.specs.Members.{member, members, lists}
 use Rattle.entry.specs.Refusals.{row, topmost, answered}
 use Rattle.entry.specs.Cells.{cells}
 use Rattle.kinds.specs.Codes.{any_code}
 use Rattle.kinds.specs.Collections.{counting, collection_of}
 use Rattle.kinds.specs.Duties.{duty_code, duty_of, duty_weight}
-use Rattle.kinds.specs.Listings.{lists, Listed}
+use Rattle.kinds.specs.Listings.{Listed}
 use Rattle.kinds.proofs.ListingFacts.{one_refused, unknown_listed, same_lists, same_known, lists-members, members_known, members_again}
 
 -- a duty entry

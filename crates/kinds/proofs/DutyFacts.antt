@@ -6,7 +6,7 @@ use Rattle.std.proofs.Common.{sym, ap, ◌∙◌, inl, inr, arith}
 use Rattle.std.proofs.lemmas.Bool.{cases_Bool, le-ltb}
 use Rattle.std.proofs.lemmas.Bool.Decides.{nat_tests}
 use Rattle.codes.specs.declared.set.CodeSet.{CodeSet}
-use Rattle.codes.specs.Members.{member, members}
+use Rattle.codes.specs.Members.{member, members, lists}
 use Rattle.entry.specs.Cells.{Meaning, weigh, held, cells, NoGap, Sized}
 use Rattle.entry.specs.Edits.{Strikes, Grants}
 use Rattle.entry.specs.Weights.{lightest, heaviest, Lightest, Heaviest}
@@ -17,7 +17,7 @@ use Rattle.entry.specs.declared.refusal.Refusal.TheVariants.{OnlyCode, UnknownCo
 use Rattle.kinds.specs.declared.duty.Duty.{Duty}
 use Rattle.kinds.specs.Laws.{duty_light, held-duty_code}
 use Rattle.kinds.specs.Duties.{duty_code, duties, duty_of, duty_weight, either}
-use Rattle.kinds.specs.Listings.{lists, all_known}
+use Rattle.kinds.specs.Listings.{all_known}
 use Rattle.kinds.proofs.LightFacts.{light_sized, level}
 use Rattle.kinds.proofs.ListingFacts.{all_taken, listed-known, all_known-listed, lists-members}
 

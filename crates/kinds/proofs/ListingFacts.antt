@@ -5,11 +5,11 @@ use Rattle.std.specs.Set.{is_member}
 use Rattle.std.proofs.lemmas.Bool.{cases_Bool, false_from_ne_true, lt-ltb}
 use Rattle.std.proofs.lemmas.Bool.Decides.{nat_tests}
 use Rattle.codes.specs.declared.set.CodeSet.{CodeSet}
-use Rattle.codes.specs.Members.{member, members}
+use Rattle.codes.specs.Members.{member, members, lists}
 use Rattle.codes.proofs.Sets.{in_members, member_below}
 use Rattle.entry.specs.Refusals.{row, topmost, answered}
 use Rattle.kinds.specs.Codes.{any_code}
-use Rattle.kinds.specs.Listings.{lists, all_known, listing_rows, Listed}
+use Rattle.kinds.specs.Listings.{all_known, listing_rows, Listed}
 
 module _ {X : Type 0} (known : ℕ → Bool) (ns : List ℕ) (x : X) where
   -- the answer of a call that a listing alone can refuse

@@ -1,10 +1,10 @@
 -- What a collection entry means: all 64 codes are known, those that count weigh 1, and the others weigh nothing.
 use Rattle.std.specs.Prelude.{ℕ, Bool, if◌then◌else◌, List, ◌++◌, Result}
-use Rattle.codes.specs.Members.{member}
+use Rattle.codes.specs.Members.{member, lists}
 use Rattle.entry.specs.Refusals.{Row, topmost, answered}
 use Rattle.entry.specs.Cells.{Meaning, cells}
 use Rattle.kinds.specs.Codes.{any_code}
-use Rattle.kinds.specs.Listings.{lists, listing_rows}
+use Rattle.kinds.specs.Listings.{listing_rows}
 use Rattle.kinds.specs.declared.collection.Collection.{Collection}
 
 -- a counted code weighs 1, and any other nothing

@@ -1,8 +1,9 @@
 -- What a duty entry means: code 0 weighs 0, code 1 weighs 1, and no other code is known.
 use Rattle.std.specs.Prelude.{ℕ, Bool, false, if◌then◌else◌, List, Result, ◌==◌, nat_lt}
+use Rattle.codes.specs.Members.{lists}
 use Rattle.entry.specs.Refusals.{Row, topmost, answered}
 use Rattle.entry.specs.Cells.{Meaning, cells}
-use Rattle.kinds.specs.Listings.{lists, listing_rows}
+use Rattle.kinds.specs.Listings.{listing_rows}
 use Rattle.kinds.specs.declared.duty.Duty.{Duty}
 
 -- the codes that the kind knows

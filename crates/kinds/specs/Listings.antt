@@ -1,14 +1,9 @@
 -- Codes given as a list of numbers: which are among them, and the refusal where one is unknown.
-use Rattle.std.specs.Prelude.{◌≡◌, ℕ, Bool, true, false, not, ◌&&◌, ◌||◌, List, [], ◌∷◌, Result, ◌==◌}
+use Rattle.std.specs.Prelude.{◌≡◌, ℕ, Bool, true, not, ◌&&◌, List, [], ◌∷◌, Result}
 use Rattle.codes.specs.declared.set.CodeSet.{CodeSet}
-use Rattle.codes.specs.Members.{member}
+use Rattle.codes.specs.Members.{member, lists}
 use Rattle.entry.specs.declared.refusal.Refusal.{Refusal}
 use Rattle.entry.specs.Refusals.{Rows, row, topmost, told, answered}
-
--- c is one of the numbers
-abbrev pub lists : List ℕ → ℕ → Bool
-lists [] c = false
-lists (n ∷ ns) c = c == n || lists ns c
 
 abbrev pub all_known : (ℕ → Bool) → List ℕ → Bool
 all_known known [] = true

@@ -21,10 +21,12 @@ pub record Ledger : Type 0 where
   pub days : List Meaning
   pub rules : Book
 
+abbrev pub kind_of : {X : Type 0} → Ghosts X → Kind
+kind_of kind = record { top = kind.TOP; known = kind.known }
+
 -- the ledger that entries and a book mean
 abbrev pub ledger : {X : Type 0} → Ghosts X → List X → Book → Ledger
-ledger kind entries book =
-    record { kind = record { top = kind.TOP; known = kind.known }; days = map kind.meaning entries; rules = book }
+ledger kind entries book = record { kind = kind_of kind; days = map kind.meaning entries; rules = book }
 
 -- days count from 1
 abbrev pub day_of : Ledger → ℕ → Meaning

@@ -33,6 +33,7 @@ abbrev pub keeps : List Meaning → Roster → Rule → Bool
 keeps days roster r =
     not r.in_force || (nat_le r.least (stretch_weight days roster r) && nat_le (stretch_weight days roster r) r.most)
 
+-- one code for each day, each held by its day's entry, and every rule in force kept
 pub record Lawful (l : Ledger) (roster : Roster) : Type 0 where
   pub long : length roster ≡ length l.days
   pub held : AllPass holds_its_code (zip l.days roster)

@@ -40,6 +40,7 @@ Within days top r =
     (1 ≤ r.first) × (r.first ≤ r.last) × (r.last ≤ days) × (r.least ≤ r.most)
     × (r.most ≤ top * (r.last - r.first + 1))
 
--- so is each rule of a book, for whatever entries it was made: no plan has more than 128 days, no kind a top above 63
+-- each rule of a book has such a window, for whatever entries it was made: no plan has more than 128 days, no kind a top
+-- above 63
 abbrev pub Bounds : Book → Type 0
 Bounds rules = (k : ℕ) → k < length rules → Within 128 63 (slice_index_or rules k no_rule)

@@ -10,6 +10,7 @@ pub data Form : Type 0 where
   list : Form → Form
   alt : Form → Form → Form
 
+-- these bytes, and then f
 abbrev pub text : List ℕ → Form → Form
 text [] f = f
 text (c ∷ cs) f = lit c (text cs f)
@@ -35,6 +36,7 @@ abbrev pub behind_blanks : List (List ℕ) → List ℕ
 behind_blanks [] = []
 behind_blanks (n ∷ ns) = 32 ∷ (n ++ behind_blanks ns)
 
+-- the text is one of those that the form stands for
 abbrev pub Spells : Form → List ℕ → Type 0
 Spells done bs = bs ≡ []
 Spells (lit c f) bs = (r : List ℕ) × (bs ≡ c ∷ r) × Spells f r

@@ -33,9 +33,17 @@ Ends text n = (byte_at text n ≡ Some 10) ⊎ ((n ≡ length text) × (n ≤ lo
 abbrev pub past : List ℕ → ℕ → ℕ
 past text n = cond (nat_lt n (length text)) (n + 1) n
 
+-- the byte is one of a to z
+abbrev pub letter : ℕ → Bool
+letter b = nat_le 97 b && nat_le b 122
+
+-- the byte is one of 0 to 9
+abbrev pub digit : ℕ → Bool
+digit b = nat_le 48 b && nat_le b 57
+
 -- no sheet has the byte
 abbrev pub foreign : ℕ → Bool
-foreign b = not (nat_le 97 b && nat_le b 122 || nat_le 48 b && nat_le b 57 || b == 32 || b == 40 || b == 41 || b == 10)
+foreign b = not (letter b || digit b || b == 32 || b == 40 || b == 41 || b == 10)
 
 abbrev pub kind_at : List ℕ → ℕ → FaultKind
 kind_at text n = cond (nat_lt n (length text) && (n == longest || foreign (slice_index text n))) Bytes Form

@@ -91,7 +91,8 @@ impl<'a> Reader<'a> {
         }
     }
 
-    // Reads the next byte, or stops at it.
+    // Reads the next byte, or stops at it. It is made part of its callers, so that the reader's few numbers stay in registers while
+    // a line is read.
     #[inline(always)]
     pub fn step(&mut self) -> Result<(), ReadFault>
         ensures { Passes self.old result self.new }

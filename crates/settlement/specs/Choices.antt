@@ -21,7 +21,7 @@ Weighs m weight code = (held m code ≡ true) × (pos (weigh m code) ≡ weight)
 abbrev pub EachAttains : List Meaning → Totals → Type 0
 EachAttains days y = (k : ℕ) (m : Meaning) → slice_get days k ≡ Some m → (code : ℕ) × Weighs m (rise y k) code
 
--- so it is for each solution of the system
+-- for each solution of the system some held codes weigh what its totals rise by
 abbrev pub Reachable : System → List Meaning → Type 0
 Reachable s days = (y : Totals) → Starts s y → EachAttains days y
 

@@ -6,7 +6,7 @@ use Rattle.entry.specs.declared.traits.Entry.{Ghosts}
 use Rattle.entry.specs.Cells.{Meaning, held, weigh}
 use Rattle.entry.specs.Refusals.{Row, row_of, topmost}
 use Rattle.ledger.specs.declared.call.Call.TheVariants.{Settle}
-use Rattle.ledger.specs.Ledgers.{Ledger, day_of, rows}
+use Rattle.ledger.specs.Ledgers.{Ledger, kind_of, day_of, rows}
 use Rattle.ledger.specs.Rosters.{Roster, Lawful, total}
 use Rattle.ledger.specs.Rules.{Book}
 use Rattle.limits.specs.declared.link.Link.{Link}
@@ -23,7 +23,7 @@ pub record Settlement : Type 0 where
 
 -- the plan that was settled
 abbrev pub plan : {X : Type 0} → Ghosts X → Settlement → Ledger
-plan kind s = record { kind = record { top = kind.TOP; known = kind.known }; days = s.days; rules = s.rules }
+plan kind s = record { kind = kind_of kind; days = s.days; rules = s.rules }
 
 -- ---- what a verdict shows
 abbrev pub is_agreed : Verdict → Bool

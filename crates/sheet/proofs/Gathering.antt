@@ -1,17 +1,22 @@
 -- What the items of a line amount to, one after another.
-use Rattle.std.proofs.Common.{rules, arith, refl, sym, ap, ◌∙◌, ◌≡◌, ℕ, ◌+◌, ◌*◌, ◌-◌, ◌^◌, ◌<◌, List, [], ◌∷◌, ◌++◌, get_or, length, codes, decimal, fold, map, append_assoc}
+use Rattle.std.proofs.Common.{rules, arith, refl, sym, ap, ◌∙◌, ◌≡◌, ℕ, ◌+◌, ◌*◌, ◌-◌, ◌^◌, ◌<◌, List, [], ◌∷◌, ◌++◌, get_or, length, codes, decimal, fold, map, append_assoc, cond, slice_index}
 use Rattle.std.specs.Int.{IsInRange}
 use Rattle.std.proofs.lemmas.List.{append-nil}
 use Rattle.std.proofs.lemmas.Fmt.{decimal_nonempty, digits_decimal, digits_value-decimal}
 use Rattle.std.proofs.lemmas.Str.Parse.{IsNumeralModel, numerals_by_fold, tells_by_index}
 use Rattle.ledger.specs.declared.call.Call.TheVariants.{Rule, Slide, Withdraw, Strike, Grant, Settle}
+use Rattle.reader.specs.Places.{digit}
 use Rattle.tokens.specs.Lines.{Line, duty, collection, boxes, call, numbers, Small}
 use Rattle.tokens.proofs.Numerals.{small_parts}
-use Rattle.sheet.specs.Drafts.{Gathered, fresh, turned, number_of, value_of, put, numbered, gather, gathered, plain}
+use Rattle.sheet.specs.Drafts.{Gathered, fresh, turned, number_of, value_of, put, numbered, worded, gathered, plain}
 use Rattle.sheet.proofs.Items.{spelled}
 use Rattle.sheet.specs.declared.draft.Name.TheVariants as name
 use Rattle.sheet.specs.declared.draft.Part.{Part}
 use Rattle.sheet.specs.declared.draft.Part.TheVariants as part
+
+-- an item that begins with a digit is a number, and any other is a word
+abbrev pub gather : Gathered → List ℕ → Gathered
+gather g item = cond (digit (slice_index item 0)) (numbered g (value_of item)) (worded g item)
 
 -- texts of digits are those with each byte a digit, and number_of is what they write
 digit_texts : IsNumeralModel (λ ds. (i : ℕ) → i < length ds → IsInRange 48 57 (get_or ds i 0)) number_of

@@ -1,5 +1,5 @@
 -- The words and numbers of a text, and those of a written line.
-use Rattle.std.specs.Prelude.{◌≡◌, ℕ, ◌<◌, ◌^◌, ◌==◌, nat_le, Bool, ◌&&◌, cond, List, [], ◌∷◌, ◌++◌, codes, decimal, map, length, slice_index}
+use Rattle.std.specs.Prelude.{◌≡◌, ℕ, ◌<◌, ◌^◌, ◌==◌, cond, List, [], ◌∷◌, ◌++◌, codes, decimal, map, length, slice_index}
 use Rattle.std.specs.List.{All, onto_first}
 use Rattle.std.proofs.Common.{◌∙◌, ap, refl, append_assoc, append-nil, arith, rules}
 use Rattle.std.specs.Int.{IsInRange}
@@ -7,16 +7,10 @@ use Rattle.std.proofs.lemmas.Bool.Decides.{nat_tests}
 use Rattle.std.proofs.lemmas.Fmt.{decimal_is_IsNumeral}
 use Rattle.std.proofs.lemmas.List.Elements.{All-head, All-tail, All-from_get_or}
 use Rattle.std.proofs.lemmas.Str.Parse.{digit_at}
+use Rattle.reader.specs.Places.{letter, digit}
 use Rattle.ledger.specs.declared.call.Call.TheVariants.{Rule, Slide, Withdraw, Strike, Grant, Settle}
 use Rattle.tokens.specs.Lines.{Line, duty, collection, boxes, call, numbers, listed, written, Small}
 use Rattle.tokens.proofs.Numerals.{small_parts}
-
--- whether a byte may be in a word, and whether it may be in a number
-abbrev pub letter : ℕ → Bool
-letter b = nat_le 97 b && nat_le b 122
-
-abbrev pub digit : ℕ → Bool
-digit b = nat_le 48 b && nat_le b 57
 
 -- 1 is a letter's class, 2 a digit's, and 0 any other byte's
 abbrev pub class : ℕ → ℕ

@@ -8,7 +8,7 @@ use Rattle.tokens.specs.Lines.{Line, duty, collection, boxes, call, numbers, wri
 use Rattle.tokens.specs.Sheets.{LineAt}
 use Rattle.tokens.specs.declared.tokens.Tokens.{Tokens}
 use Rattle.tokens.proofs.Unique.{one_next, one_writing, line_no_fault}
-use Rattle.sheet.specs.Drafts.{Gathered, Holds, fresh, gather, gathered}
+use Rattle.sheet.specs.Drafts.{Gathered, Holds, fresh, gathered}
 use Rattle.sheet.specs.Faults.{IsFault}
 use Rattle.sheet.specs.Reading.{ReadLine}
 use Rattle.sheet.specs.declared.draft.Draft.{Draft}
@@ -16,7 +16,7 @@ use Rattle.sheet.specs.declared.draft.Name.{Name}
 use Rattle.sheet.specs.declared.draft.Name.TheVariants as name
 use Rattle.sheet.specs.declared.fault.LineFault.{LineFault}
 use Rattle.sheet.proofs.Items.{items, written_items}
-use Rattle.sheet.proofs.Gathering.{gathers}
+use Rattle.sheet.proofs.Gathering.{gather, gathers}
 
 -- the line of a name, with the single numbers n 0, n 1 and so on, and the lists
 abbrev line_named : Name → (ℕ → ℕ) → List ℕ → List ℕ → Line

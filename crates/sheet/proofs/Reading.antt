@@ -24,11 +24,11 @@ use Rattle.tokens.proofs.Unique.{ends_within, one_fault}
 use Rattle.sheet.specs.Faults.{IsFault}
 use Rattle.sheet.specs.Reading.{ReadLine, Reads}
 use Rattle.sheet.specs.declared.fault.LineFault.{LineFault}
-use Rattle.sheet.specs.Drafts.{Gathered, Holds, fresh, gather, gathered, worded, numbered, value_of}
+use Rattle.sheet.specs.Drafts.{Gathered, Holds, fresh, gathered, worded, numbered, value_of}
 use Rattle.sheet.specs.declared.draft.Draft.{Draft}
 use Rattle.sheet.proofs.Items.{class, items, spelled, written_items}
 use Rattle.sheet.proofs.TokenItems.{told, token_items, closing_items, word_letters, number_digits}
-use Rattle.sheet.proofs.Gathering.{digits_are_a_number, gathers}
+use Rattle.sheet.proofs.Gathering.{gather, digits_are_a_number, gathers}
 
 -- d holds what the line from `start` says before `at`: all of it is that, with what comes behind
 pub record Gathers (text : List ℕ) (start at : ℕ) (d : Draft) : Type 0 where

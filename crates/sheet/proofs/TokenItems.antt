@@ -13,11 +13,11 @@ use Rattle.reader.specs.declared.place.Place.{Place}
 use Rattle.std.proofs.lemmas.List.Elements.{All-from_get_or}
 use Rattle.std.proofs.lemmas.List.Folds.{drop_split}
 use Rattle.std.proofs.lemmas.List.Edits.{between_none, get_or-between}
-use Rattle.reader.specs.Places.{byte_at, longest}
+use Rattle.reader.specs.Places.{byte_at, longest, letter, digit}
 use Rattle.tokens.specs.Tokens.{Blanks, Tells, Closes}
 use Rattle.tokens.specs.declared.token.Token.{Token}
 use Rattle.tokens.specs.declared.token.Token.TheVariants.{Open, Close, Word, Number, End}
-use Rattle.sheet.proofs.Items.{letter, digit, class, items, items_blanks, items_run}
+use Rattle.sheet.proofs.Items.{class, items, items_blanks, items_run}
 
 -- a part of a text is two parts that join
 range_split : (xs : List ℕ) (a b c : ℕ) → a ≤ b → b ≤ c → slice_range xs a c ≡ slice_range xs a b ++ slice_range xs b c

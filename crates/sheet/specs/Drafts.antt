@@ -1,5 +1,5 @@
 -- What the tokens so far say of a line. Only this crate's own code cites it.
-use Rattle.std.specs.Prelude.{◌≡◌, ℕ, ◌+◌, ◌*◌, ◌-◌, ◌^◌, ◌%◌, min, ◌&&◌, cond, nat_le, List, [], ◌∷◌, ◌++◌, codes, take, length, fold, slice_index, bytes_eq}
+use Rattle.std.specs.Prelude.{◌≡◌, ℕ, ◌+◌, ◌*◌, ◌-◌, ◌^◌, ◌%◌, min, cond, List, [], ◌∷◌, ◌++◌, codes, take, length, fold, bytes_eq}
 use Rattle.ledger.specs.declared.call.Call.TheVariants.{Rule, Slide, Withdraw, Strike, Grant, Settle}
 use Rattle.tokens.specs.Lines.{Line, duty, collection, boxes, call}
 use Rattle.sheet.specs.CodeLists.{Lists}
@@ -71,10 +71,6 @@ put part.Counts g ns = record g { counts = g.counts ++ ns }
 
 abbrev pub numbered : Gathered → ℕ → Gathered
 numbered g n = put g.part g (n ∷ [])
-
--- an item that begins with a digit is a number, and any other is a word
-abbrev pub gather : Gathered → List ℕ → Gathered
-gather g item = cond (nat_le 48 (slice_index item 0) && nat_le (slice_index item 0) 57) (numbered g (value_of item)) (worded g item)
 
 -- a line with no lists
 abbrev pub plain : Name → List ℕ → Gathered

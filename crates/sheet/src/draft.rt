@@ -42,6 +42,7 @@ pub(crate) struct Draft {
 }
 
 impl Draft {
+    // A settle is a line with no other name, no number and no list.
     pub(crate) fn new() -> Draft
         ensures { Holds result fresh }
     {
@@ -106,6 +107,7 @@ impl Draft {
                 codes: self.codes,
                 counts: self.counts,
             },
+            // The names of calls stand on later lines alone.
             _ => Start::Boxes { days, low, high },
         }
     }
@@ -136,6 +138,7 @@ impl Draft {
                 day: first,
                 code: second,
             },
+            // The names of kinds stand on the first line alone.
             _ => Call::Settle,
         }
     }

@@ -10,6 +10,7 @@ pub data Line : Type 0 where
   boxes : ℕ → ℕ → ℕ → Line
   call : Call → Line
 
+-- the numbers of a line, in the order in which they are written
 abbrev pub numbers : Line → List ℕ
 numbers (duty days held) = days ∷ held
 numbers (collection days held counts) = days ∷ (held ++ counts)
@@ -33,6 +34,7 @@ abbrev pub listed : List ℕ → List ℕ
 listed [] = []
 listed (n ∷ ns) = 32 ∷ (decimal n ++ listed ns)
 
+-- the bytes of a line
 abbrev pub written : Line → List ℕ
 written (duty days held) = codes "(sheet duty " ++ (decimal days ++ (codes " (codes" ++ (listed held ++ codes "))")))
 written (collection days held counts) = codes "(sheet collection " ++ (decimal days ++ (codes " (codes" ++ (listed held ++ (codes ") (counts" ++ (listed counts ++ codes "))")))))

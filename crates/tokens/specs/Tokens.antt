@@ -1,6 +1,6 @@
 -- The tokens of a line: the parts of the text that they are.
-use Rattle.std.specs.Prelude.{◌≡◌, ℕ, ◌+◌, ◌≤◌, ◌<◌, Bool, true, ◌&&◌, nat_le, List, slice_index, slice_range, ◌⊎◌, MatchOption, Some}
-use Rattle.reader.specs.Places.{byte_at, position_of}
+use Rattle.std.specs.Prelude.{◌≡◌, ℕ, ◌+◌, ◌≤◌, ◌<◌, Bool, true, List, slice_index, slice_range, ◌⊎◌, MatchOption, Some}
+use Rattle.reader.specs.Places.{byte_at, position_of, letter, digit}
 use Rattle.reader.specs.declared.place.Place.{Place}
 use Rattle.tokens.specs.Lines.{Line}
 use Rattle.tokens.specs.Sheets.{LineAt}
@@ -10,8 +10,8 @@ use Rattle.tokens.specs.declared.token.Token.{Token}
 use Rattle.tokens.specs.declared.token.Token.TheVariants.{Open, Close, Word, Number, End}
 
 abbrev pub in_class : Class → ℕ → Bool
-in_class Letters b = nat_le 97 b && nat_le b 122
-in_class Digits b = nat_le 48 b && nat_le b 57
+in_class Letters = letter
+in_class Digits = digit
 
 -- P holds of each byte of the text from a to b
 pub record Each (P : ℕ → Type 0) (text : List ℕ) (a b : ℕ) : Type 0 where

@@ -1,8 +1,8 @@
 use Rattle.std.proofs.Common.{◌≡◌, ℕ, true, Ok, sym, ap, ◌∙◌, arith}
 use Rattle.std.proofs.lemmas.List.{at_drop_all}
 use Rattle.std.proofs.lemmas.Grind.{common_steps}
-use Rattle.codes.specs.Members.{member}
-use Rattle.kinds.specs.Listings.{lists, all_known}
+use Rattle.codes.specs.Members.{member, lists}
+use Rattle.kinds.specs.Listings.{all_known}
 use Rattle.kinds.proofs.ListingFacts.{all_taken}
 use Rattle.kinds.proofs.listing.listed.Goals as goal
 

@@ -1,6 +1,6 @@
 use Rattle.std.proofs.Common.{◌≡◌, ℕ, ◌||◌, drop}
-use Rattle.codes.specs.Members.{member}
-use Rattle.kinds.specs.Listings.{lists, all_known}
+use Rattle.codes.specs.Members.{member, lists}
+use Rattle.kinds.specs.Listings.{all_known}
 use Rattle.kinds.proofs.listing.listed.Given as goal
 
 abbrev pub invariant-loop-code : goal.invariant-loop-code

@@ -1,5 +1,6 @@
 use Rattle.std.proofs.Common.{rules, ◌≡◌, ℕ, List, [], ◌∷◌, ◌++◌, ◌==◌, ◌||◌, nat_lt}
-use Rattle.sheet.specs.CodeLists.{lists, goes_above}
+use Rattle.codes.specs.Members.{lists}
+use Rattle.sheet.specs.CodeLists.{goes_above}
 use Rattle.sheet.proofs.code_list.CodeList.push.Goals as goal
 
 -- a list that is one number longer
