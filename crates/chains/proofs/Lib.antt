@@ -6,3 +6,4 @@ pub mod Pigeons
 pub mod StartFacts
 pub mod Sums
 pub mod WalkFacts
+pub mod SumFacts

@@ -5,8 +5,8 @@ ghost use Rattle.limits.specs.Systems.{Solvable, days, Within, at_mark, marks};
 use limits::link::Link;
 use limits::system::{MARKS, System};
 
-// A total for each mark: in the first layer where each day weighs its lightest, in each later one the least that a link into
-// the mark makes of the layer before.
+// A total for each mark: in the first layer where each day weighs its lightest, in each later one the total of the layer
+// before, or what a link into the mark makes of that layer, whichever is least.
 pub(crate) type Layer = [i32; MARKS];
 
 // One layer for each number of links, from none to as many as there are marks.

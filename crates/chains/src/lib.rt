@@ -1,6 +1,7 @@
 // Judges a system of links: it has a solution, or a closed chain of its links rules out every one.
 #![tactic(auto)]
 
+pub mod chain;
 mod layers;
 mod walk;
 
@@ -10,6 +11,7 @@ ghost use Rattle.limits.specs.Links.{Totals, Solves};
 ghost use Rattle.limits.specs.Systems.{Solvable};
 ghost use Rattle.chains.specs.Chains.{Blocks};
 
+use crate::chain::sum;
 use crate::layers::{Layers, falling_mark, lightest_totals};
 use crate::walk::blocking_chain;
 use bounded::Bounded;
@@ -27,6 +29,10 @@ pub fn judge(system: &System) -> Result<Agreed<'_>, Bounded<Link, MARKS>>
     layers[0] = lightest_totals(system);
     match falling_mark(system, &mut layers) {
         None => Ok(Agreed { system }),
-        Some(mark) => Err(blocking_chain(system, &layers, mark)),
+        Some(mark) => {
+            let chain = blocking_chain(system, &layers, mark);
+            prove!(sum(&chain) < 0);
+            Err(chain)
+        }
     }
 }

@@ -4,7 +4,8 @@ use Rattle.limits.specs.Links.{Totals, Solves}
 use Rattle.limits.specs.Systems.{System, marks, at_mark}
 use Rattle.closure.specs.Allowances.{Allowances, Covered, Obeys}
 
--- every link is covered, no less is allowed than the links together imply, and no way by another mark allows less
+-- every link is covered, no less is allowed than the links together imply, no way by another mark allows less, and a mark is
+-- allowed no rise to itself
 pub record Closes (s : System) (allowed : Allowances) : Type 0 where
   pub covers : All (Covered allowed) s.links
   pub implied : (y : Totals) → Solves s.links y → Obeys (marks s) allowed y

@@ -1,7 +1,7 @@
 // The closure of the links of a system: what they allow from each mark to each other, directly or by way of others.
 #![tactic(auto)]
 
-pub mod matrix;
+mod matrix;
 mod rows;
 mod steps;
 
@@ -24,11 +24,11 @@ pub struct Rise {
     pub most: i16,
 }
 
-// A system with what its links together allow.
+// A system with what its links together allow, as the type says.
 #[derive(Drop)]
 pub struct Closure<'s> {
     pub system: &'s System,
-    pub matrix: Matrix,
+    matrix: Matrix,
     ghost bounds: { Bounds system.now },
     ghost sized: { matrix.marks ≡ days system.now + 1 },
     ghost closes: { Closes system.now (cell matrix.cells) },
@@ -39,8 +39,7 @@ impl<'s> Closure<'s> {
     // callers it copies the rows less often.
     #[inline(always)]
     pub fn of(agreed: &Agreed<'s>) -> Closure<'s>
-        ensures system { result.system.now ≡ agreed.now.system.now }
-        ensures closes { Closes agreed.now.system.now (cell result.matrix.cells) }
+        ensures { result.system.now ≡ agreed.now.system.now }
     {
         let system = agreed.system;
         let marks = system.days() + 1;

@@ -9,9 +9,9 @@ pub(crate) type Cells = [Row; MARKS];
 
 // An allowance from each of so many marks to each other, none of them larger than a sum of days.
 #[derive(Drop)]
-pub struct Matrix {
-    pub marks: usize,
-    pub cells: Cells,
+pub(crate) struct Matrix {
+    pub(crate) marks: usize,
+    pub(crate) cells: Cells,
     ghost few: { marks ≤ 129 },
     ghost near: { AllNear marks (cell cells) },
 }

@@ -13,11 +13,11 @@ pub const MARKS: usize = 129;
 // Room for two for each of 128 days, and two for each of 512 rules.
 const LINKS: usize = 1280;
 
-// No day weighs more.
-pub const TOP: u32 = 63;
+// No day weighs more than this.
+pub const LARGEST_WEIGHT: u32 = 63;
 
-// Nor does any sum of days.
-pub const LARGEST: u32 = 8064;
+// No sum of days is larger than this.
+pub(crate) const LARGEST_SUM: u32 = 8064;
 
 // The links of a plan's days and rules, in the order in which these were added.
 #[derive(Drop)]
@@ -89,7 +89,11 @@ impl System {
         ensures after { self.new ≡ (if day_fits self.old lightest heaviest then with_day self.old lightest heaviest else self.old) }
     {
         let marks = self.lightest.len();
-        if marks == MARKS || lightest > TOP || heaviest > TOP || self.links.len() + 2 > LINKS {
+        if marks == MARKS
+            || lightest > LARGEST_WEIGHT
+            || heaviest > LARGEST_WEIGHT
+            || self.links.len() + 2 > LINKS
+        {
             return Err(Unfit);
         }
         let day = marks as u32;
@@ -116,7 +120,7 @@ impl System {
         if first == 0 || first > last || last as usize >= self.lightest.len() {
             return Err(Unfit);
         }
-        if least > LARGEST || most > LARGEST || self.links.len() + 2 > LINKS {
+        if least > LARGEST_SUM || most > LARGEST_SUM || self.links.len() + 2 > LINKS {
             return Err(Unfit);
         }
         let lower = (Limit::Least(number), least);

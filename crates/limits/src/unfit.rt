@@ -4,8 +4,8 @@ ghost use Rattle.std.specs.Fmt.{padded};
 use std::error::Error;
 use std::fmt;
 
-// What has no place in a system: a weight above 63, a least or a most above 8,064, days that the plan does not have, or links
-// beyond 1,280.
+// What has no place in a system: a weight above 63, a least or a most above 8,064, a 129th day, a rule whose days the plan
+// does not have or whose first day is behind its last, or links beyond 1,280.
 #[derive(Clone, Copy, PartialEq, Eq, Debug)]
 pub struct Unfit;
 

@@ -4,7 +4,7 @@ use entry::refusal::Refusal;
 use kinds::boxes::Boxes;
 use ledger::book::Book;
 use ledger::days::DAYS;
-use limits::system::{MARKS, TOP};
+use limits::system::{LARGEST_WEIGHT, MARKS};
 use std::fmt;
 use std::str::FromStr;
 
@@ -130,7 +130,7 @@ pub(crate) fn made_up(days: u32, rules: u32, sort: Sort) -> Result<Plan, Refusal
     let totals = add_days(&mut plan, &mut draws, days)?;
     for number in 1..=rules {
         let stand = sort.stand(number, rules, days);
-        let [first, last, least, most] = draws.rule(stand, days, &totals, TOP);
+        let [first, last, least, most] = draws.rule(stand, days, &totals, LARGEST_WEIGHT);
         plan.book
             .rule(plan.entries.as_slice(), first, last, least, most)?;
     }
@@ -143,9 +143,12 @@ fn add_days(plan: &mut Plan, draws: &mut Draws, days: u32) -> Result<Bounded<u32
     let mut totals = Bounded::new(total);
     let _ = totals.push(total);
     for _ in 0..days {
-        let weight = draws.between(0, TOP);
+        let weight = draws.between(0, LARGEST_WEIGHT);
         let lightest = draws.between(weight.saturating_sub(DAY_LEEWAY), weight);
-        let heaviest = draws.between(weight, weight.saturating_add(DAY_LEEWAY).min(TOP));
+        let heaviest = draws.between(
+            weight,
+            weight.saturating_add(DAY_LEEWAY).min(LARGEST_WEIGHT),
+        );
         let entry = Boxes::new(lightest, heaviest)?;
         plan.entries.push(entry).map_err(|_| Refusal::TooManyDays)?;
         total = total.wrapping_add(weight);

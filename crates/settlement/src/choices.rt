@@ -31,11 +31,10 @@ fn possible_codes<E: Entry>(entries: &[E], closure: &Closure<'_>) -> Bounded<Cod
     let mut possible = Bounded::new(CodeSet::empty());
     for (index, entry) in entries.iter().enumerate() {
         let before = index as u8;
-        let set = match closure.rise(Mark(before), Mark(before + 1)) {
-            Some(rise) => codes_within(entry, rise),
-            None => CodeSet::empty(),
+        let Some(rise) = closure.rise(Mark(before), Mark(before + 1)) else {
+            unreachable!()
         };
-        let _ = possible.push(set);
+        let _ = possible.push(codes_within(entry, rise));
     }
     possible
 }

@@ -23,7 +23,7 @@ ready g c =
 pub agreement-requires-clause-reachable : goal.agreement-requires-clause-reachable
 agreement-requires-clause-reachable g c =
     let at = (goal.at.agreement-requires-clause-reachable g c).After-judge in
-    rw (c.of.ensures.system, c.in-Ok-judge.ensures.agreed.0)
+    rw (c.of.ensures, c.in-Ok-judge.ensures.agreed.0)
     (reachable (plan g at) c.in-Ok.system (ready g at) c.in-Ok.ensures.system)
 
 pub returns-in-Err-judge : goal.returns-in-Err-judge
@@ -41,5 +41,5 @@ returns-in-Ok-judge g c =
     record {
       answer = sym (taken g at);
       meets = λ _. agreed_meets (plan g at) c.in-Ok.system (ready g at) c.in-Ok.ensures.system c.agreement.result
-          (rw (← c.in-Ok-judge.ensures.agreed.0, ← c.of.ensures.system) c.agreement.ensures);
+          (rw (← c.in-Ok-judge.ensures.agreed.0, ← c.of.ensures) c.agreement.ensures);
     }
