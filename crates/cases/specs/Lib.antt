@@ -1,1 +1,1 @@
-pub mod Tried
+pub mod Worked

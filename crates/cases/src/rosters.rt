@@ -1,5 +1,4 @@
-use crate::definitions::lawful_of_three;
-use crate::plans::seven_days;
+use crate::days::seven_days;
 use entry::refusal::Refusal;
 use kinds::duty::Duty;
 use ledger::book::Book;
@@ -69,7 +68,7 @@ fn no_days_and_too_many(rt: HostRuntime) -> Result<(), Fail> {
     Ok(())
 }
 
-// The check finds lawful just those rosters that the definition does.
+// Of all eight rosters the check finds lawful those two that keep both rules.
 #[test]
 fn every_roster_of_three_days(rt: HostRuntime) -> Result<(), Fail> {
     let days = [Duty::new(&[0, 1])?; 3];
@@ -78,7 +77,7 @@ fn every_roster_of_three_days(rt: HostRuntime) -> Result<(), Fail> {
     assert_eq!(rt; book.rule(&days, 1, 3, 2, 2), Ok(2));
     assert_eq!(rt; book.rule(&days, 1, 1, 1, 1), Ok(3));
     assert_eq!(rt; book.withdraw(3), Ok(()));
-    let lawful = lawful_of_three();
+    let lawful = [[0, 1, 1], [1, 0, 1]];
     for n in 0..8u8 {
         let roster = [n / 4, n / 2 % 2, n % 2];
         let expected = lawful.contains(&roster);

@@ -1,4 +1,4 @@
-use crate::plans::seven_days;
+use crate::days::seven_days;
 use course::settle_after;
 use entry::refusal::Refusal;
 use kinds::boxes::Boxes;
@@ -10,50 +10,6 @@ use limits::link::{Limit, Link, Mark};
 use settlement::settle;
 use settlement::verdict::Verdict;
 use std::test::Fail;
-
-// Each window alone would admit code 0 on day 7.
-#[test]
-fn windows_together(rt: HostRuntime) -> Result<(), Fail> {
-    let days = seven_days()?;
-    let mut book = Book::new();
-    assert_eq!(rt; book.slide(&days, 5, 2, 3), Ok(Some((1, 3))));
-    let settlement = settle(&days, &book);
-    let off = [false, false, true, true, true, true, false];
-    let on = [true, true, true, true, true, false, true];
-    for (code, possible) in [(0u32, off), (1, on)] {
-        for (day, expected) in (1u32..8).zip(possible) {
-            assert_eq!(rt; settlement.possible(day, code), Ok(expected));
-        }
-    }
-    let mut list = [9u8; 9];
-    assert_eq!(rt; settlement.lean(&mut list), Ok(()));
-    assert_eq!(rt; list, [1, 1, 0, 0, 1, 0, 1, 9, 9]);
-    assert_eq!(rt; settlement.full(&mut list), Ok(()));
-    assert_eq!(rt; list, [1, 1, 1, 0, 0, 0, 1, 9, 9]);
-    Ok(())
-}
-
-#[test]
-fn ten_days(rt: HostRuntime) -> Result<(), Fail> {
-    let either = Duty::new(&[0, 1])?;
-    let off = Duty::new(&[0])?;
-    let days = [
-        off, off, either, either, either, either, either, either, off, off,
-    ];
-    let mut book = Book::new();
-    assert_eq!(rt; book.slide(&days, 5, 2, 3), Ok(Some((1, 6))));
-    let settlement = settle(&days, &book);
-    for (day, off) in (3u32..9).zip([false, true, true, true, true, false]) {
-        assert_eq!(rt; settlement.possible(day, 0), Ok(off));
-        assert_eq!(rt; settlement.possible(day, 1), Ok(true));
-    }
-    let mut list = [0u8; 10];
-    assert_eq!(rt; settlement.lean(&mut list), Ok(()));
-    assert_eq!(rt; list, [0, 0, 1, 0, 1, 0, 1, 1, 0, 0]);
-    assert_eq!(rt; settlement.full(&mut list), Ok(()));
-    assert_eq!(rt; list, [0, 0, 1, 1, 0, 1, 0, 1, 0, 0]);
-    Ok(())
-}
 
 // A code is not its weight: of the two counted codes the smaller is shown.
 #[test]

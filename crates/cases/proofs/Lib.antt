@@ -1,0 +1,2 @@
+mod EveryRoster
+mod Expecting
