@@ -13,7 +13,7 @@
 extern "C" {
 #endif
 
-/* So many bytes a sheet has at the most. Of a longer text carry looks at no byte but these and the one after them. */
+/* A sheet has at most so many bytes. Of a longer text carry looks at no byte but these and the one after them. */
 #define PLANNER_SHEET_BYTES 16384
 
 /*

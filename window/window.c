@@ -1,10 +1,10 @@
 /*
- * A review window at its smallest: has the planner work a sheet, shows the answers, and says in words why the work ended.
+ * A small viewer: has the planner work a sheet, shows the answers, and says in words why the work ended.
  *
  * usage: window SHEET [ROOM]
  *
  * SHEET is a file. The answers have room for ROOM bytes, 65,536 where it is not given. They go to standard output. The exit
- * status is the number of the refusal that ended the work, 0 where every line is answered, and 100 where the window itself
+ * status is the number of the refusal that ended the work, 0 where every line is answered, and 100 where the viewer itself
  * can do nothing.
  */
 #include "planner.h"
