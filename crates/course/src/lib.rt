@@ -14,7 +14,6 @@ use settlement::settle;
 use settlement::settlement::Settlement;
 
 // Works the calls one after another. A refused call changes nothing, and the next follows.
-#[tactic(auto, using(crate::proofs::RunFacts::run_to))]
 pub fn replay<E: Entry>(entries: &mut [E], book: &mut Book, calls: &[Call])
     ensures run { Run (ledger E.Entry entries.old book.old) calls.now (ledger E.Entry entries.new book.new) }
     ensures good { Starts (ledger E.Entry entries.old book.old) → Good (ledger E.Entry entries.new book.new) }

@@ -6,6 +6,7 @@ mod settling;
 mod sheets;
 
 use entry::refusal::Refusal;
+use failure::Failure;
 use kinds::collection::Collection;
 use ledger::book::Book;
 use ledger::days;
@@ -91,7 +92,7 @@ fn play_settling(
     rt: &HostRuntime,
     days: &mut [Collection; 10],
     book: &mut Book,
-) -> anyhow::Result<()> {
+) -> Result<(), Failure> {
     println!(rt; "\nThe fortnight is settled:")?;
     tell_settlement(rt, days, book)?;
     println!(rt; "\nAnother donor asks for more than there is:")?;
@@ -107,7 +108,7 @@ fn play_settling(
     tell_settlement(rt, days, book)
 }
 
-fn main(rt: HostRuntime) -> anyhow::Result<()> {
+fn main(rt: HostRuntime) -> Result<(), Failure> {
     let mut days = granted()?;
     let mut book = Book::new();
     make_rules(&rt, &days, &mut book)?;

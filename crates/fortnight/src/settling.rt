@@ -1,5 +1,6 @@
 use crate::rosters::{print_codes, tell_check};
 use crate::tell;
+use failure::Failure;
 use kinds::collection::Collection;
 use ledger::book::Book;
 use limits::link::{Limit, Link};
@@ -14,7 +15,7 @@ use std::io;
 pub(crate) fn print_calendar(
     rt: &HostRuntime,
     settlement: &Settlement<'_, '_, Collection>,
-) -> anyhow::Result<()> {
+) -> Result<(), Failure> {
     println!(rt; "  Agreed. Possible, day by day:")?;
     print!(rt; "          ")?;
     for day in 0..10 {
@@ -38,7 +39,7 @@ fn tell_rosters(
     settlement: &Settlement<'_, '_, Collection>,
     days: &[Collection; 10],
     book: &Book,
-) -> anyhow::Result<()> {
+) -> Result<(), Failure> {
     let mut list = [0u8; 10];
     settlement.lean(&mut list)?;
     print!(rt; "  Fewest letters:")?;
@@ -86,7 +87,7 @@ pub(crate) fn tell_settlement(
     rt: &HostRuntime,
     days: &[Collection; 10],
     book: &Book,
-) -> anyhow::Result<()> {
+) -> Result<(), Failure> {
     let settlement = settle(days, book);
     match settlement.verdict() {
         Verdict::Refused(refusal) => {

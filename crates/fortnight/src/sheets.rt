@@ -2,6 +2,7 @@ use crate::settling::print_calendar;
 use bounded::Bounded;
 use carry::carry;
 use course::settle_after;
+use failure::Failure;
 use kinds::collection::Collection;
 use ledger::book::Book;
 use ledger::call::Call;
@@ -61,7 +62,7 @@ fn tell_fault(rt: &HostRuntime, fault: LineFault) -> io::Result<()> {
 }
 
 // The calls are made on a new plan of ten days, all in one.
-fn tell_calls(rt: &HostRuntime, start: Start, calls: &[Call]) -> anyhow::Result<()> {
+fn tell_calls(rt: &HostRuntime, start: Start, calls: &[Call]) -> Result<(), Failure> {
     println!(rt; "  {} lines after the first.", calls.len())?;
     if let Start::Collection {
         days: 10,
@@ -78,11 +79,15 @@ fn tell_calls(rt: &HostRuntime, start: Start, calls: &[Call]) -> anyhow::Result<
 }
 
 // Every line of the sheet once more, worked and answered by one call.
-fn tell_answers(rt: &HostRuntime, text: &[u8]) -> anyhow::Result<()> {
+fn tell_answers(rt: &HostRuntime, text: &[u8]) -> Result<(), Failure> {
     let mut list = [0; 1024];
     let carried = carry(text, &mut list);
+    let answers = str::from_utf8(&list[..carried.count]);
     println!(rt; "  Answered line by line:")?;
-    for answer in str::from_utf8(&list[..carried.count])?.lines() {
+    for answer in answers
+        .map_err(|_| io::Error::from(io::ErrorKind::InvalidData))?
+        .lines()
+    {
         println!(rt; "    {answer}")?;
     }
     println!(rt; "  Ended by refusal {}.", carried.number())?;
@@ -90,7 +95,7 @@ fn tell_answers(rt: &HostRuntime, text: &[u8]) -> anyhow::Result<()> {
 }
 
 // The fortnight from a sheet, and from one that is mistyped.
-pub(crate) fn tell_sheets(rt: &HostRuntime) -> anyhow::Result<()> {
+pub(crate) fn tell_sheets(rt: &HostRuntime) -> Result<(), Failure> {
     for (name, text) in [("a sheet", FORTNIGHT), ("a mistyped sheet", MISTYPED)] {
         println!(rt; "\nThe fortnight from {name}:")?;
         match read(text) {

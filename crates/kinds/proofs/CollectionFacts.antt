@@ -19,7 +19,7 @@ use Rattle.kinds.specs.Laws.{counted_light}
 use Rattle.kinds.proofs.LightFacts.{light_sized, level}
 
 -- a set that is not empty has a member
-found : (s : CodeSet) (empty : Bool) → empty ≡ false → (((c : ℕ) → member s c ≡ false) → empty ≡ true) → (c : ℕ) × (member s c ≡ true)
+pub found : (s : CodeSet) (empty : Bool) → empty ≡ false → (((c : ℕ) → member s c ≡ false) → empty ≡ true) → (c : ℕ) × (member s c ≡ true)
 found s empty f none =
     let any = decides_some (member s) (λ c. member s c ≡ true) (λ c. (λ t. t, λ t. t)) 64 in
     let one = any.0 (true_from_ne_false (some (member s) 64)
@@ -52,7 +52,7 @@ module _ (x : Collection) where
   pub held_is : (c : ℕ) → held m c ≡ holds c
   held_is c = held-cells weighs holds c ∙ grind (arith, nat_tests, member_below x.held c)
 
-  counted_is : (c : ℕ) → weigh m c ≡ (if counted c then 1 else 0)
+  pub counted_is : (c : ℕ) → weigh m c ≡ (if counted c then 1 else 0)
   counted_is c = weigh-cells weighs holds c ∙ grind (arith, nat_tests, member_below x.counted c)
 
   -- what the methods say of a code
@@ -79,8 +79,8 @@ module _ (x : Collection) where
   -- the set of the held codes that do not count
   module _ (s : CodeSet) (free : (c : ℕ) → member s c ≡ (holds c && not (counted c))) where
     -- such a code weighs nothing
-    pub lightest_free : (((c : ℕ) → member s c ≡ false) → false ≡ true) → Lightest m 0
-    lightest_free full =
+    pub lightest_free : (((c : ℕ) → member s c ≡ false) → false ≡ true) → (w : ℕ) → w ≡ 0 → Lightest m w
+    lightest_free full w nothing =
         let one = found s false refl full in
         attained one.0 (grind (arith, nat_tests, held_is one.0, free one.0, one.1))
         (grind (arith, nat_tests, counted_is one.0, free one.0, one.1)) (λ _ _. omega arith)
@@ -105,8 +105,11 @@ module _ (x : Collection) where
       pub alone : ((k : ℕ) → member s k ≡ false) → (k : ℕ) → held m k ≡ true → k ≡ c
       alone empty k t = grind (arith, nat_tests, agree k, empty k, held_is k)
 
-      pub other : (empty : Bool) → empty ≡ false → (((k : ℕ) → member s k ≡ false) → empty ≡ true)
+      pub other : (k : ℕ) → member s k ≡ true → (held m k ≡ true) × (k ≢ c)
+      other k t = (grind (arith, nat_tests, agree k, held_is k), λ e. grind (arith, nat_tests, agree k))
+
+      pub some_other : (empty : Bool) → empty ≡ false → (((k : ℕ) → member s k ≡ false) → empty ≡ true)
           → (k : ℕ) × (held m k ≡ true) × (k ≢ c)
-      other empty f none =
+      some_other empty f none =
           let one = found s empty f none in
-          (one.0, grind (arith, nat_tests, agree one.0, one.1, held_is one.0), λ e. grind (arith, nat_tests, agree one.0, one.1))
+          let (there, another) = other one.0 one.1 in (one.0, there, another)

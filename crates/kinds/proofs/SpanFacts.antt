@@ -22,6 +22,10 @@ module _ (low high : ℕ) where
   pub sized : Sized m
   sized = (length-cells (λ c. c) (spans low high), weigh_below (λ c. c) (spans low high) 63 (λ c h. omega arith))
 
+  -- a run without codes holds no weight
+  pub empty_weightless : high < low → Lightest m 0 × Heaviest m 0
+  empty_weightless p = weightless m (λ c t. let at = in_run low high c t in absurd (omega arith))
+
   module _ (c : ℕ) (below : c < 64) where
     inside : c < length m
     inside = omega (arith, sized.0)
@@ -37,14 +41,14 @@ module _ (low high : ℕ) where
         subst (λ k. held new k ≡ true) (grind (arith, nat_tests, weighs found.0, found.2)) found.1
 
     -- a code between the ends cannot go
-    inner_struck : low < c → c < high → high ≤ 63 → NoGap (struck m c) → ⊥
+    pub inner_struck : low < c → c < high → high ≤ 63 → NoGap (struck m c) → ⊥
     inner_struck p q top whole =
         let first = struck_stays m c inside low (run_in low high low (omega arith) (omega arith) (omega arith)) (λ e. omega arith) in
         let last = struck_stays m c inside high (run_in low high high (omega arith) (omega arith) (omega arith)) (λ e. omega arith) in
         (struck_was m c inside c (filled false low high c whole first last p q (omega arith))).1 refl
 
     -- nor can one come that is not beside an end
-    outer_granted : low ≤ high → high ≤ 63 → held m c ≡ false → c + 1 ≢ low → high + 1 ≢ c → NoGap (granted m c) → ⊥
+    pub outer_granted : low ≤ high → high ≤ 63 → held m c ≡ false → c + 1 ≢ low → high + 1 ≢ c → NoGap (granted m c) → ⊥
     outer_granted p top out before after whole =
         let here = granted_stays m c inside c (inr refl) in
         let first = granted_stays m c inside low (inl (run_in low high low (omega arith) p (omega arith))) in
@@ -142,15 +146,11 @@ module _ (b : Boxes) where
       let h = run_in b.low b.high b.high p (omega arith) (omega arith) in
       attained b.high h ((in_run b.low b.high b.high h).3 ∙ sym e) (λ c t. let at = in_run b.low b.high c t in omega arith)
 
-  -- a run without codes holds no weight
-  empty_weightless : b.high < b.low → Lightest (boxed b) 0 × Heaviest (boxed b) 0
-  empty_weightless p = weightless (boxed b) (λ c t. let at = in_run b.low b.high c t in absurd (omega arith))
-
   pub lightest_none : b.high < b.low → Lightest (boxed b) 0
-  lightest_none p = (empty_weightless p).0
+  lightest_none p = (empty_weightless b.low b.high p).0
 
   pub heaviest_none : b.high < b.low → Heaviest (boxed b) 0
-  heaviest_none p = (empty_weightless p).1
+  heaviest_none p = (empty_weightless b.low b.high p).1
 
   pub says_lightest : (w : ℕ) → w ≡ b.low → b.low ≤ b.high → w ≡ lightest (boxed b)
   says_lightest w e p = lightest_is _ _ (lightest_low w e p)

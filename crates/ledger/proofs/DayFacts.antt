@@ -1,6 +1,6 @@
 -- What a strike or a grant of one entry makes of the plan that the entry stands in.
 use Rattle.std.specs.Prelude.{◌≡◌, ℕ, ◌-◌, ◌<◌, ◌≤◌, Bool, true, false, ◌||◌, ◌==◌, nat_lt, List, [], ◌∷◌, length, slice_index_or, slice_set, Some, None, Ok, Err, Option, Result, refl}
-use Rattle.std.proofs.Common.{ap, ◌∙◌, inl, inr, arith, length-set, MutBor}
+use Rattle.std.proofs.Common.{ap, subst, ◌∙◌, inl, inr, arith, length-set, MutBor}
 use Rattle.std.specs.Fn.{Once, FnOnceReturnsAtMut}
 use Rattle.std.proofs.lemmas.Bool.{cases_lt, cases_Bool}
 use Rattle.std.proofs.lemmas.List.{length-map, get_or-map, get_or-set_other, map-set, set-get_or}
@@ -87,12 +87,13 @@ module _ {X : Type 0} (kind : Ghosts X) (xs : List X) (day : ℕ) (call : Call) 
           idle = λ book a. cc ((e.idle (rw (day_is book) (d.already (plan book) a))).1, back);
         }
 
-  -- an edit of the entry of a day that may not be there
+  -- an edit of the entry of a day that may not be there; `given` is the day of which the edit was asked
   on_day : (Edit : X → Result (Unit {0}) Refusal → X → Type 0) (c : ℕ) (r : Result (Unit {0}) Refusal) (ys : List X)
       → ((x : X) (r : Result (Unit {0}) Refusal) (y : X) → Edit x r y
       → Edited f c (d.judge kind.known (f x)) (d.edit (f x)) (d.So kind.known (f x)) x r y)
-      → OnDay Edit day xs r ys → EditsDay kind call day xs r ys
-  on_day Edit c r ys means h =
+      → (given : ℕ) → OnDay Edit given xs r ys → given ≡ day → EditsDay kind call day xs r ys
+  on_day Edit c r ys means given asked same =
+      let h : OnDay Edit day xs r ys = subst (λ n. OnDay Edit n xs r ys) same asked in
       let long = length-map xs f in
       elim (cases_lt 128 (length xs)) [
         | inl many ↦
@@ -121,7 +122,7 @@ called_at G f P each x r y call =
 module _ {X F : Type 0} (kind : Ghosts X) (xs : List X) (day : ℕ) (G : Once F (MutBor X × Unit {0}) (Result (Unit {0}) Refusal × (MutBor X × Unit {0}))) (f : F)
     (c : ℕ) (r : Result (Unit {0}) Refusal) (ys : List X) where
   pub strikes_on_day : ((shown left : MutBor X) (r : Result (Unit {0}) Refusal) → G.post f (shown, tt) (r, (left, tt)) → Strikes kind.meaning kind.known c shown.now r left.now)
-      → OnDay (FnOnceReturnsAtMut G f) day xs r ys → EditsDay kind (Strike day c) day xs r ys
+      → (given : ℕ) → OnDay (FnOnceReturnsAtMut G f) given xs r ys → given ≡ day → EditsDay kind (Strike day c) day xs r ys
   strikes_on_day each =
       on_day kind xs day (Strike day c) (record {
         judge = λ known m. strike_rows known m c;
@@ -135,7 +136,7 @@ module _ {X F : Type 0} (kind : Ghosts X) (xs : List X) (day : ℕ) (G : Once F 
       (FnOnceReturnsAtMut G f) c r ys (λ x s y e. (called_at G f (Strikes kind.meaning kind.known c) each x s y e).0)
 
   pub grants_on_day : ((shown left : MutBor X) (r : Result (Unit {0}) Refusal) → G.post f (shown, tt) (r, (left, tt)) → Grants kind.meaning kind.known c shown.now r left.now)
-      → OnDay (FnOnceReturnsAtMut G f) day xs r ys → EditsDay kind (Grant day c) day xs r ys
+      → (given : ℕ) → OnDay (FnOnceReturnsAtMut G f) given xs r ys → given ≡ day → EditsDay kind (Grant day c) day xs r ys
   grants_on_day each =
       on_day kind xs day (Grant day c) (record {
         judge = λ known m. grant_rows known m c;

@@ -6,6 +6,7 @@ mod words;
 
 use entry::refusal::Refusal;
 use entry::traits::Entry;
+use failure::Failure;
 use papers::Papers;
 use std::io;
 use week::{Shift, Week, Weekday, span};
@@ -88,7 +89,7 @@ fn open_friday(rt: &HostRuntime, week: &mut Week) -> io::Result<()> {
     )
 }
 
-fn main(rt: HostRuntime) -> anyhow::Result<()> {
+fn main(rt: HostRuntime) -> Result<(), Failure> {
     let mut week = Week::new()?;
     println!(rt; "A reviewer's week as it is set up:")?;
     print_week(&rt, &week)?;

@@ -1,4 +1,4 @@
-use Rattle.std.proofs.Common.{refl}
+use Rattle.std.proofs.Common.{refl, arith}
 use Rattle.entry.proofs.Weighing.{lightest_is}
 use Rattle.kinds.proofs.CollectionFacts.{lightest_free, lightest_counted}
 use Rattle.kinds.proofs.collection.CollectionEntry.lightest.Goals as goal
@@ -13,5 +13,8 @@ returns-then-is_empty c =
 pub returns-else-is_empty : goal.returns-else-is_empty
 returns-else-is_empty c =
     let free = c.sub-free in
-    let least = lightest_free c.args.self.now free.result free.ensures.each c.if-is_empty.ensures.none.1 in
-    record { equals = lightest_is _ _ least; means = least }
+    let full = c.if-is_empty.ensures.none.1 in
+    record {
+      equals = lightest_is _ _ (lightest_free c.args.self.now free.result free.ensures.each full _ (omega arith));
+      means = lightest_free c.args.self.now free.result free.ensures.each full _ (omega arith);
+    }
