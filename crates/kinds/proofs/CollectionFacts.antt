@@ -86,8 +86,9 @@ module _ (x : Collection) where
         (grind (arith, nat_tests, counted_is one.0, free one.0, one.1)) (λ _ _. omega arith)
 
     -- where each held code counts, the heaviest is the lightest
-    pub lightest_counted : ((c : ℕ) → member s c ≡ false) → (w : ℕ) → Heaviest m w → Lightest m w
-    lightest_counted never w = level m 1 w (λ k t. grind (arith, nat_tests, counted_is k, held_is k, free k, never k))
+    pub lightest_counted : ((c : ℕ) → member s c ≡ false) → (v : ℕ) → Heaviest m v → (w : ℕ) → w ≡ v → Lightest m w
+    lightest_counted never v most w same =
+        rw same (level m 1 v (λ k t. grind (arith, nat_tests, counted_is k, held_is k, free k, never k)) most)
 
   -- the entry with other codes held
   abbrev pub holding : CodeSet → Collection

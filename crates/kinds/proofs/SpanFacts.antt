@@ -164,6 +164,10 @@ module _ (b : Boxes) where
   pub says_no_heaviest : b.high < b.low → 0 ≡ heaviest (boxed b)
   says_no_heaviest p = heaviest_is _ _ (heaviest_none p)
 
+-- a held code lies in the run
+pub within : (b : Boxes) (c : ℕ) → held (boxed b) c ≡ true → (b.low ≤ c) × (c ≤ b.high)
+within b c t = let at = in_run b.low b.high c t in (at.0, at.1)
+
 -- of each method, the cases that its body goes through
 pub ruleset holds_cases = (says_held, says_below)
 

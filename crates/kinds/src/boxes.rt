@@ -92,6 +92,7 @@ impl Entry for Boxes {
         }
     }
 
+    #[tactic(auto, using(crate::proofs::SpanFacts::within))]
     fn strike(&mut self, code: u32) -> Result<(), Refusal> {
         if !Self::known(code) {
             return Err(Refusal::UnknownCode);

@@ -7,6 +7,9 @@ use Rattle.kinds.proofs.collection.CollectionEntry.heaviest.Goals as goal
 pub returns : goal.returns
 returns c =
     let counting = c.bitand-counting in
-    let most = heaviest_flag c.args.self.now counting.result counting.ensures c.is_empty.result c.is_empty.ensures.none c.from.result
-    (grind (arith, nat_tests, c.from.ensures)) in
-    record { equals = heaviest_is _ _ most; means = most }
+    record {
+      equals = heaviest_is _ _ (heaviest_flag c.args.self.now counting.result counting.ensures c.is_empty.result c.is_empty.ensures.none _
+          (grind (arith, nat_tests, c.from.ensures)));
+      means = heaviest_flag c.args.self.now counting.result counting.ensures c.is_empty.result c.is_empty.ensures.none _
+          (grind (arith, nat_tests, c.from.ensures));
+    }

@@ -7,8 +7,11 @@ pub returns-then-is_empty : goal.returns-then-is_empty
 returns-then-is_empty c =
     let free = c.sub-free in
     let never = c.if-is_empty.ensures.none.0 refl in
-    let least = lightest_counted c.args.self.now free.result free.ensures.each never _ c.heaviest.ensures.means in
-    record { equals = lightest_is _ _ least; means = least }
+    let most = c.heaviest.ensures.means in
+    record {
+      equals = lightest_is _ _ (lightest_counted c.args.self.now free.result free.ensures.each never _ most _ (omega arith));
+      means = lightest_counted c.args.self.now free.result free.ensures.each never _ most _ (omega arith);
+    }
 
 pub returns-else-is_empty : goal.returns-else-is_empty
 returns-else-is_empty c =
